@@ -1,0 +1,2 @@
+pub mod FormLaws
+pub mod WordLaws

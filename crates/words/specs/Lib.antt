@@ -1,0 +1,4 @@
+pub mod Forms
+pub mod Words
+pub mod Seen
+pub mod Due
