@@ -1,2 +1,4 @@
+pub mod DueLaws
 pub mod FormLaws
+pub mod TableLaws
 pub mod WordLaws

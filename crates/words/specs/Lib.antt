@@ -2,3 +2,4 @@ pub mod Forms
 pub mod Words
 pub mod Seen
 pub mod Due
+pub mod Tables

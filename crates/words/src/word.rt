@@ -12,6 +12,9 @@ use super::forms::numeral_of;
 use super::place::Place;
 use crate::forms::NumeralDebug;
 
+// The most bytes that a text may have.
+pub const LONGEST_TEXT: usize = 16_777_216;
+
 // A word with the place of its first byte: letters from a to z, a number with its value, or any other.
 #[derive(Clone, Copy, Debug)]
 pub enum Word<'a> {

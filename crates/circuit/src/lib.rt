@@ -1,0 +1,3 @@
+// Circuits: their tables and the reader of circuit texts.
+pub mod read;
+pub mod tables;
