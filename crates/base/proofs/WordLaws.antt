@@ -10,10 +10,10 @@ use lib.Bits.{bitAnd, bitOr, and-step, or-step, and-shr, or-shr, and-lt, or-lt}
 use lib.Dec.{leb, ltb, eqb, eqb·suc-suc}
 use lib.Pow.{pow-mono}
 use Rattle.std.proofs.shelf.Bits.{pow-pos, pow-below, shr-shr}
-use Rattle.std.proofs.shelf.Tests.{cases-lt, cond-both, eq-eqb, leb-false}
+use Rattle.std.proofs.shelf.Tests.{cases-lt, cond-both, eq-eqb, eqb-true, leb-false}
 use Rattle.std.proofs.shelf.Ways.{tells}
 use Rattle.base.specs.declared.values.ValueWord.{ValueWord}
-use Rattle.base.specs.Words.{position, empty-word, first-word, single-word, union-word, common-word, has-bit, within-word}
+use Rattle.base.specs.Words.{position, empty-word, first-word, single-word, union-word, common-word, has-bit, within-word, equal-words}
 
 -- bit j of a number, and the bits of what the words are made by
 abbrev bit : ℕ → ℕ → ℕ
@@ -136,3 +136,12 @@ pub same-word : (a b : ValueWord) → a .bits < 2 ^ 64 → b .bits < 2 ^ 64 → 
 same-word a b la lb e =
     let same : a .bits ≡ b .bits = same-bits 64 (a .bits) (b .bits) la lb (λ j h. grind (arith, tells, e (suc j), has-at a j h, has-at b j h)) in
     ap (λ (n : ℕ). record { bits = n }) same
+
+-- equality of words by their test
+pub equal-itself : (a : ValueWord) → equal-words a a ≡ true
+unfolding equal-words
+equal-itself a = eq-eqb (a .bits) (a .bits) refl
+
+pub equal-from : (a b : ValueWord) → equal-words a b ≡ true → a ≡ b
+unfolding equal-words
+equal-from a b e = ap (λ n. record { bits = n }) (eqb-true (a .bits) (b .bits) e)

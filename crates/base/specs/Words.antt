@@ -31,3 +31,7 @@ has-bit a k = position k && eqb (a .bits / 2 ^ (k - 1) % 2) 1
 -- whether each position of a is in b
 unfoldable pub within-word : ValueWord → ValueWord → Bool
 within-word a b = eqb (bitAnd (a .bits) (2 ^ 64 - 1 - b .bits)) 0
+
+-- whether both words have the same positions
+unfoldable pub equal-words : ValueWord → ValueWord → Bool
+equal-words a b = eqb (a .bits) (b .bits)

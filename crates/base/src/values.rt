@@ -1,6 +1,6 @@
 // Words of values and of dependencies: a set of universal positions, from 1 to 64.
 ghost use mathlib.Core.Path.{_≡_};
-ghost use Rattle.base.specs.Words.{empty-word, first-word, single-word, union-word, common-word, has-bit, within-word};
+ghost use Rattle.base.specs.Words.{empty-word, first-word, single-word, union-word, common-word, has-bit, within-word, equal-words};
 
 // The bit worth 2^(k-1) belongs to universal position k.
 #[derive(Clone, Copy, PartialEq, Eq, Debug)]
@@ -73,5 +73,12 @@ impl ValueWord {
         ensures { λ r. ⌜ r ≡ within-word self other ⌝ }
     {
         self.bits & !other.bits == 0
+    }
+
+    // Whether both words have the same positions.
+    pub fn equals(self, other: ValueWord) -> bool
+        ensures { λ r. ⌜ r ≡ equal-words self other ⌝ }
+    {
+        self.bits == other.bits
     }
 }

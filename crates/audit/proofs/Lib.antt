@@ -1,0 +1,13 @@
+pub mod EachLaws
+pub mod TurnLaws
+pub mod CircuitTables
+pub mod CircuitTexts
+pub mod CircuitAuditLaw
+pub mod FormulaOwners
+pub mod FormulaVariables
+pub mod FormulaPrefix
+pub mod FormulaClauses
+pub mod FormulaTexts
+pub mod FormulaPlaces
+pub mod FormulaLeft
+pub mod FormulaAuditLaw

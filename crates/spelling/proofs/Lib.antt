@@ -1,0 +1,13 @@
+pub mod ProperWords
+pub mod PrefixLaws
+pub mod DependsLaws
+pub mod DeclaredLaws
+pub mod GroupsLaw
+pub mod MatrixLaw
+pub mod HeaderLaw
+pub mod FormulaLaws
+pub mod CircuitReads
+pub mod CircuitParts
+pub mod CircuitLaws
+pub mod Decimals
+pub mod TextOf

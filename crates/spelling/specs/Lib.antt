@@ -1,0 +1,5 @@
+pub mod Dqbf
+pub mod FormulaGrammar
+pub mod FormulaLaw
+pub mod CircuitGrammar
+pub mod CircuitLaw
