@@ -1,5 +1,7 @@
 -- The table of causes: each cause's number, each layer's number, and the refusals that they make.
 use Prim.Native.Nat.{ℕ}
+use Rattle.std.specs.declared.result.Result.{Result}
+use Rattle.std.specs.declared.result.Result.the-variants.{Ok, Err}
 use Rattle.base.specs.declared.faults.Cause.{Cause}
 use Rattle.base.specs.declared.faults.Cause.the-variants as cause
 use Rattle.base.specs.declared.faults.Layer.{Layer}
@@ -55,3 +57,8 @@ told f = record { cause = cause-number (f .cause); place = f .place; layer = lay
 -- A refusal with its numbers in the order in which it is printed.
 abbrev pub refused : ℕ → ℕ → ℕ → Refusal
 refused c p l = record { cause = c; place = p; layer = l }
+
+-- an answer as it is told
+abbrev pub answered : {X : Type 0} → Result X Fault → Result X Refusal
+answered (Ok x) = Ok x
+answered (Err e) = Err (told e)
