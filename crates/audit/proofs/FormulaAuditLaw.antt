@@ -31,6 +31,7 @@ use Rattle.audit.proofs.FormulaPrefix.{prefix-universals, prefix-existentials,
 use Rattle.audit.proofs.FormulaPlaces.{declared-all}
 use Rattle.audit.proofs.FormulaClauses.{Matrix-held, clauses-have, have-clauses}
 use Rattle.audit.proofs.FormulaTexts.{Small, Small-clause, formula-text}
+use Rattle.audit.proofs.FormulaBounds.{variables-bound}
 use Rattle.audit.proofs.FormulaLeft.{spells-within, prefix-variables-held}
 
 -- the head
@@ -166,12 +167,13 @@ module _ (h : Head) (vs : List Variable) (cs : List Clause) (ls : List Literal) 
             },
           )
 
-  pub lawful-left : All (λ x. x .dependencies .bits < 2 ^ 64) vs → formula-lawful h vs cs ls ≡ true → Left-by-a-formula-text h vs cs ls
-  lawful-left low e =
+  pub lawful-left : formula-lawful h vs cs ls ≡ true → Left-by-a-formula-text h vs cs ls
+  lawful-left e =
       let a = and-parts _ (clauses-lawful h vs cs ls) e in
       let b = and-parts (head-lawful h (length vs) (length cs)) (variables-lawful h vs) (a .0) in
       let l = limits-are h (length vs) (length cs) (b .0) in
       let v = decides-variables h vs (l .variables-fit) (l .few-universals) (l .few-existentials) .0 (b .1) in
+      let low = variables-bound h vs v in
       left low l v (clauses-have known vs (variables-of (prefix low l v)) (range low l v) (tells low l v) h cs ls refl (l .clauses-fit) (a .1))
 
   -- tables that a reading leaves pass
@@ -234,9 +236,9 @@ module _ (h : Head) (vs : List Variable) (cs : List Clause) (ls : List Literal) 
       let (dqbf, rest, read) = parts-sound (words-from text place) (length vs) (length cs) (length ls) (length text) (l .formula) (words-proper text place) (l .accepted) in
       left-passes text place l dqbf rest read
 
-pub formula-audit : (h : Head) (vs : List Variable) (cs : List Clause) (ls : List Literal) → All (λ x. x .dependencies .bits < 2 ^ 64) vs → Decides (formula-lawful h vs cs ls) (Left-by-a-formula-text h vs cs ls)
-formula-audit h vs cs ls low = (lawful-left h vs cs ls low, left-lawful h vs cs ls)
+pub formula-audit : (h : Head) (vs : List Variable) (cs : List Clause) (ls : List Literal) → Decides (formula-lawful h vs cs ls) (Left-by-a-formula-text h vs cs ls)
+formula-audit h vs cs ls = (lawful-left h vs cs ls, left-lawful h vs cs ls)
 
 -- so does any answer that is what the audit computes
-pub formula-audited : {r : Bool} (h : Head) (vs : List Variable) (cs : List Clause) (ls : List Literal) → All (λ x. x .dependencies .bits < 2 ^ 64) vs → r ≡ formula-lawful h vs cs ls → Decides r (Left-by-a-formula-text h vs cs ls)
-formula-audited {r} h vs cs ls low e = decides-at r (formula-lawful h vs cs ls) e (formula-audit h vs cs ls low)
+pub formula-audited : {r : Bool} (h : Head) (vs : List Variable) (cs : List Clause) (ls : List Literal) → r ≡ formula-lawful h vs cs ls → Decides r (Left-by-a-formula-text h vs cs ls)
+formula-audited {r} h vs cs ls e = decides-at r (formula-lawful h vs cs ls) e (formula-audit h vs cs ls)

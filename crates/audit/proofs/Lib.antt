@@ -10,4 +10,5 @@ pub mod FormulaClauses
 pub mod FormulaTexts
 pub mod FormulaPlaces
 pub mod FormulaLeft
+pub mod FormulaBounds
 pub mod FormulaAuditLaw

@@ -10,7 +10,7 @@ use lib.Bits.{bitAnd, bitOr, and-step, or-step, and-shr, or-shr, and-lt, or-lt}
 use lib.Dec.{leb, ltb, eqb, eqb·suc-suc}
 use lib.Pow.{pow-mono}
 use Rattle.std.proofs.shelf.Bits.{pow-pos, pow-below, shr-shr}
-use Rattle.std.proofs.shelf.Tests.{cases-lt, cond-both, eq-eqb, eqb-true, leb-false}
+use Rattle.std.proofs.shelf.Tests.{and-from, and-parts, cases-lt, cond-both, eq-eqb, eqb-true, leb-false, lt-ltb, ltb-true}
 use Rattle.std.proofs.shelf.Ways.{tells}
 use Rattle.base.specs.declared.values.ValueWord.{ValueWord}
 use Rattle.base.specs.Words.{position, empty-word, first-word, single-word, union-word, common-word, has-bit, within-word, equal-words}
@@ -115,6 +115,11 @@ has-at : (a : ValueWord) (j : ℕ) → j < 64 → has-bit a (suc j) ≡ eqb (bit
 unfolding has-bit
 has-at a j h = grind (arith, tells)
 
+-- a word that is within another fits 64 bits
+pub within-bound : (a b : ValueWord) → within-word a b ≡ true → a .bits < 2 ^ 64
+unfolding within-word
+within-bound a b w = ltb-true (a .bits) (2 ^ 64) (and-parts (ltb (a .bits) (2 ^ 64)) (eqb (bitAnd (a .bits) (2 ^ 64 - 1 - b .bits)) 0) w .0)
+
 -- a word is within another just where each of its positions is in the other
 pub within-yes : (a b : ValueWord) → a .bits < 2 ^ 64 → b .bits < 2 ^ 64 → within-word a b ≡ true → (k : ℕ) → has-bit a k ≡ true → has-bit b k ≡ true
 unfolding has-bit within-word
@@ -127,9 +132,10 @@ pub within-from : (a b : ValueWord) → a .bits < 2 ^ 64 → b .bits < 2 ^ 64 �
 unfolding within-word
 within-from a b la lb f =
     let c = 2 ^ 64 - 1 - b .bits in
-    eq-eqb (bitAnd (a .bits) c) 0
+    and-from (ltb (a .bits) (2 ^ 64)) (eqb (bitAnd (a .bits) c) 0) (lt-ltb (a .bits) (2 ^ 64) la)
+    (eq-eqb (bitAnd (a .bits) c) 0
     (same-bits 64 (bitAnd (a .bits) c) 0 (and-lt 64 (a .bits) c la (omega arith)) (omega arith)
-    (λ j h. grind (arith, tells, f (suc j), has-at a j h, has-at b j h, bit-and j (a .bits) c, bit-zero j, bit-not 64 j (b .bits) lb h)))
+    (λ j h. grind (arith, tells, f (suc j), has-at a j h, has-at b j h, bit-and j (a .bits) c, bit-zero j, bit-not 64 j (b .bits) lb h))))
 
 -- two words with the same positions are the same word
 pub same-word : (a b : ValueWord) → a .bits < 2 ^ 64 → b .bits < 2 ^ 64 → ((k : ℕ) → has-bit a k ≡ has-bit b k) → a ≡ b

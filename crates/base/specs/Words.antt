@@ -2,7 +2,7 @@
 use mathlib.Core.Bool.{Bool, true, false, cond, _&&_}
 use Prim.Native.Nat.{ℕ, _-_, _/_, _%_, _^_}
 use lib.Bits.{bitAnd, bitOr}
-use lib.Dec.{leb, eqb}
+use lib.Dec.{leb, ltb, eqb}
 use Rattle.base.specs.declared.values.ValueWord.{ValueWord}
 
 -- the positions of a word are 1 to 64
@@ -28,9 +28,9 @@ common-word a b = record { bits = bitAnd (a .bits) (b .bits) }
 unfoldable pub has-bit : ValueWord → ℕ → Bool
 has-bit a k = position k && eqb (a .bits / 2 ^ (k - 1) % 2) 1
 
--- whether each position of a is in b
+-- whether a is a word of 64 bits and each position of a is in b
 unfoldable pub within-word : ValueWord → ValueWord → Bool
-within-word a b = eqb (bitAnd (a .bits) (2 ^ 64 - 1 - b .bits)) 0
+within-word a b = ltb (a .bits) (2 ^ 64) && eqb (bitAnd (a .bits) (2 ^ 64 - 1 - b .bits)) 0
 
 -- whether both words have the same positions
 unfoldable pub equal-words : ValueWord → ValueWord → Bool
