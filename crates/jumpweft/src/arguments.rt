@@ -1,68 +1,89 @@
-// The command line: a command, files, and options that take a value.
+// The command line: a command, then files and options. An option begins with `--` and takes the next word as its value.
 use std::alloc::Global;
 use std::env;
 use std::error::AnyError;
 
+// The words of the command line, the program's name first.
 #[derive(Drop)]
 pub struct Arguments {
-    pub command: String,
-    files: Vec<String>,
-    names: Vec<String>,
-    values: Vec<String>,
+    words: Vec<String>,
 }
 
 impl Arguments {
     pub fn read(rt: &LibcRuntime) -> Result<Arguments, AnyError> {
-        let heap = rt.alloc();
-        let mut command = String::new(heap);
-        let mut files = Vec::new(heap);
-        let mut names = Vec::new(heap);
-        let mut values = Vec::new(heap);
+        let words = env::args(rt)?.collect(rt.alloc())?;
+        Ok(Arguments { words })
+    }
+
+    pub fn command(&self) -> &str {
+        match self.words.as_slice() {
+            [_, command, ..] => command.as_str(),
+            _ => "",
+        }
+    }
+
+    // The words behind the command.
+    fn rest(&self) -> &[String] {
+        match self.words.as_slice() {
+            [_, _, rest @ ..] => rest,
+            _ => &[],
+        }
+    }
+
+    // Whether an option stands last, without a value.
+    pub fn value_missing(&self) -> bool {
         let mut value_due = false;
-        for (i, word) in env::args(rt)?.enumerate() {
-            if i == 0 {
-                continue;
+        for word in self.rest() {
+            value_due = !value_due && word.as_str().starts_with("--");
+        }
+        value_due
+    }
+
+    // Whether each option is one of these.
+    pub fn only_options(&self, options: &[&str]) -> bool {
+        let mut value_due = false;
+        for word in self.rest() {
+            value_due = !value_due && word.as_str().starts_with("--");
+            if value_due && !known(word.as_str(), options) {
+                return false;
             }
-            if i == 1 {
-                command = word;
-            } else if value_due {
-                values.push(word)?;
+        }
+        true
+    }
+
+    // The file that the command is run on, where there is exactly one.
+    pub fn only_file(&self) -> Option<&str> {
+        let mut file = None;
+        let mut value_due = false;
+        for word in self.rest() {
+            if value_due {
                 value_due = false;
             } else if word.as_str().starts_with("--") {
-                names.push(word)?;
                 value_due = true;
+            } else if file.is_some() {
+                return None;
             } else {
-                files.push(word)?;
+                file = Some(word.as_str());
             }
         }
-        if value_due {
-            return Err("the last option has no value".into());
-        }
-        Ok(Arguments { command, files, names, values })
+        file
     }
 
-    // The file that the command is run on, where there is exactly one and each option is one of these.
-    pub fn only_file(&self, options: &[&str]) -> Result<&str, AnyError> {
-        for name in self.names.iter() {
-            if !known(name.as_str(), options) {
-                return Err("an option that this command does not have".into());
+    // The number that an option gives, the last where it stands more than once, or else the default.
+    pub fn number(&self, option: &str, default: usize) -> Result<usize, AnyError> {
+        let mut number = default;
+        let mut due = None;
+        for word in self.rest() {
+            if let Some(name) = due {
+                if name == option {
+                    number = word.as_str().parse::<usize>()?;
+                }
+                due = None;
+            } else if word.as_str().starts_with("--") {
+                due = Some(word.as_str());
             }
         }
-        match self.files.as_slice() {
-            [file] => Ok(file.as_str()),
-            _ => Err("this command takes one file".into()),
-        }
-    }
-
-    // The number that an option gives, where it stands.
-    pub fn number(&self, name: &str) -> Result<Option<usize>, AnyError> {
-        let mut found = None;
-        for (n, v) in self.names.iter().zip(self.values.iter()) {
-            if n.as_str() == name {
-                found = Some(v.as_str().parse::<usize>()?);
-            }
-        }
-        Ok(found)
+        Ok(number)
     }
 }
 

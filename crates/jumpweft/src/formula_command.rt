@@ -1,36 +1,55 @@
 // `jumpweft formula`: reads a formula into tables and prints them.
 use std::error::AnyError;
-use std::fs;
+use std::io;
 use std::io::BufWriter;
 use std::io::Write;
 use base::values::ValueWord;
-use formula::read::read_formula;
 use formula::tables::Clause;
 use formula::tables::Head;
 use formula::tables::Kind;
 use formula::tables::Literal;
 use formula::tables::Variable;
+use spelling::read_formula;
 use words::place::Place;
 use super::arguments::Arguments;
+use super::input::Input;
 use super::show;
 
+#[derive(Drop)]
+struct Tables {
+    variables: Vec<Variable>,
+    clauses: Vec<Clause>,
+    literals: Vec<Literal>,
+}
+
 pub fn run(rt: &LibcRuntime, arguments: &Arguments) -> Result<bool, AnyError> {
+    let Some(input) = Input::read(rt, arguments, &["--at", "--variables", "--clauses", "--literals"])? else {
+        return Ok(false);
+    };
+    let mut tables = make_tables(rt, arguments, input.text.len())?;
+    let accepted = read_and_print(rt, input.text.as_slice(), input.start, &mut tables)?;
+    Ok(accepted)
+}
+
+// Tables of the lengths that the options give, or else long enough for every formula of this many bytes.
+fn make_tables(rt: &LibcRuntime, arguments: &Arguments, bytes: usize) -> Result<Tables, AnyError> {
     let heap = rt.alloc();
-    let file = arguments.only_file(&["--at", "--variables", "--clauses", "--literals"])?;
-    let text = fs::read(rt, file)?;
-    let mut place = Place { at: arguments.number("--at")?.unwrap_or(0) };
+    let variable_room = arguments.number("--variables", 65_535)?;
+    let clause_room = arguments.number("--clauses", 16_384)?;
     // A text of b bytes has at most b / 2 literals.
-    let most = (text.len() / 2).min(16_777_216);
-    let variable_room = arguments.number("--variables")?.unwrap_or(65_535);
-    let clause_room = arguments.number("--clauses")?.unwrap_or(16_384);
-    let literal_room = arguments.number("--literals")?.unwrap_or(most);
+    let literal_room = arguments.number("--literals", (bytes / 2).min(16_777_216))?;
     let none = Variable { kind: Kind::Undeclared, position: 0, dependencies: ValueWord::empty() };
-    let mut variables = vec![in heap; none; variable_room]?;
-    let mut clauses = vec![in heap; Clause { first: 0, len: 0 }; clause_room]?;
-    let mut literals = vec![in heap; Literal { variable: 0, negative: false }; literal_room]?;
-    match read_formula(text.as_slice(), &mut place, variables.as_mut_slice(), clauses.as_mut_slice(), literals.as_mut_slice()) {
+    let variables = vec![in heap; none; variable_room]?;
+    let clauses = vec![in heap; Clause { first: 0, len: 0 }; clause_room]?;
+    let literals = vec![in heap; Literal { variable: 0, negative: false }; literal_room]?;
+    Ok(Tables { variables, clauses, literals })
+}
+
+fn read_and_print(rt: &LibcRuntime, text: &[u8], start: Place, tables: &mut Tables) -> Result<bool, io::Error> {
+    let mut place = start;
+    match read_formula(text, &mut place, tables.variables.as_mut_slice(), tables.clauses.as_mut_slice(), tables.literals.as_mut_slice()) {
         Ok(head) => {
-            print_formula(rt, place, head, variables.as_slice(), clauses.as_slice(), literals.as_slice())?;
+            print_formula(rt, place, head, tables)?;
             Ok(true)
         }
         Err(fault) => {
@@ -40,44 +59,55 @@ pub fn run(rt: &LibcRuntime, arguments: &Arguments) -> Result<bool, AnyError> {
     }
 }
 
-fn print_formula(rt: &LibcRuntime, place: Place, head: Head, variables: &[Variable], clauses: &[Clause], literals: &[Literal]) -> Result<(), AnyError> {
+fn print_formula(rt: &LibcRuntime, place: Place, head: Head, tables: &Tables) -> Result<(), io::Error> {
     let mut out = BufWriter::new(rt.stdout());
-    let at = place.at;
-    writeln!(out, "accepted, place {at}")?;
-    let Head { variables: v, clauses: c, universals, existentials } = head;
-    writeln!(out, "V {v}, C {c}, n {universals}, E {existentials}")?;
-    for (i, variable) in variables.iter().take(v as usize).enumerate() {
-        print_variable(&mut out, i.saturating_add(1), *variable)?;
+    show::accepted(&mut out, place)?;
+    print_head(&mut out, head)?;
+    print_variables(&mut out, show::front(tables.variables.as_slice(), head.variables))?;
+    print_clauses(&mut out, show::front(tables.clauses.as_slice(), head.clauses), tables.literals.as_slice())?;
+    out.flush()
+}
+
+fn print_head<W: Write>(out: &mut W, head: Head) -> Result<(), io::Error> {
+    let Head { variables, clauses, universals, existentials } = head;
+    writeln!(out, "V {variables}, C {clauses}, n {universals}, E {existentials}")
+}
+
+fn print_variables<W: Write>(out: &mut W, variables: &[Variable]) -> Result<(), io::Error> {
+    for (i, variable) in variables.iter().enumerate() {
+        print_variable(out, i.saturating_add(1), *variable)?;
     }
-    for (i, clause) in clauses.iter().take(c as usize).enumerate() {
-        print_clause(&mut out, i.saturating_add(1), *clause, literals)?;
-    }
-    out.flush()?;
     Ok(())
 }
 
-fn print_variable<W: Write>(out: &mut W, number: usize, variable: Variable) -> Result<(), AnyError> {
+fn print_variable<W: Write>(out: &mut W, number: usize, variable: Variable) -> Result<(), io::Error> {
     let position = variable.position;
     let word = variable.dependencies.bits;
     match variable.kind {
-        Kind::Undeclared => writeln!(out, "variable {number}: undeclared")?,
-        Kind::Universal => writeln!(out, "variable {number}: universal {position}")?,
-        Kind::Existential => writeln!(out, "variable {number}: existential {position}, dependencies {word:016x}")?,
+        Kind::Undeclared => writeln!(out, "variable {number}: undeclared"),
+        Kind::Universal => writeln!(out, "variable {number}: universal {position}"),
+        Kind::Existential => writeln!(out, "variable {number}: existential {position}, dependencies {word:016x}"),
+    }
+}
+
+fn print_clauses<W: Write>(out: &mut W, clauses: &[Clause], literals: &[Literal]) -> Result<(), io::Error> {
+    for (i, clause) in clauses.iter().enumerate() {
+        print_clause(out, i.saturating_add(1), *clause, literals)?;
     }
     Ok(())
 }
 
-fn print_clause<W: Write>(out: &mut W, number: usize, clause: Clause, literals: &[Literal]) -> Result<(), AnyError> {
+fn print_clause<W: Write>(out: &mut W, number: usize, clause: Clause, literals: &[Literal]) -> Result<(), io::Error> {
     let Clause { first, len } = clause;
     write!(out, "clause {number}: first {first}, length {len}:")?;
-    for literal in literals.iter().skip(first as usize).take(len as usize) {
-        let variable = literal.variable;
-        if literal.negative {
-            write!(out, " -{variable}")?;
-        } else {
-            write!(out, " {variable}")?;
-        }
+    for literal in show::front(show::behind(literals, first), len) {
+        print_literal(out, *literal)?;
     }
-    writeln!(out)?;
-    Ok(())
+    writeln!(out)
+}
+
+fn print_literal<W: Write>(out: &mut W, literal: Literal) -> Result<(), io::Error> {
+    let variable = literal.variable;
+    let sign = if literal.negative { "-" } else { "" };
+    write!(out, " {sign}{variable}")
 }

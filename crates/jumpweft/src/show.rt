@@ -1,16 +1,32 @@
-// Refusals in words.
-use std::error::AnyError;
+// What both commands show: the used part of a table, and what became of a text.
+use std::io;
+use std::io::Write;
 use base::faults::Cause;
 use base::faults::Fault;
+use words::place::Place;
+
+// The first n entries, or all where there are fewer.
+pub fn front<T>(entries: &[T], n: u32) -> &[T] {
+    &entries[..(n as usize).min(entries.len())]
+}
+
+// The entries behind the first n.
+pub fn behind<T>(entries: &[T], n: u32) -> &[T] {
+    &entries[(n as usize).min(entries.len())..]
+}
+
+pub fn accepted<W: Write>(out: &mut W, place: Place) -> Result<(), io::Error> {
+    let at = place.at;
+    writeln!(out, "accepted, place {at}")
+}
 
 // Prints a refusal: its numbers, and in brackets what is wrong.
-pub fn refusal(rt: &LibcRuntime, fault: Fault) -> Result<(), AnyError> {
+pub fn refusal(rt: &LibcRuntime, fault: Fault) -> Result<(), io::Error> {
     let cause = fault.cause.number();
     let place = fault.place;
     let layer = fault.layer.number();
     let words = meaning(fault.cause);
-    println!(rt, "refused: cause {cause}, place {place}, layer {layer} ({words})")?;
-    Ok(())
+    println!(rt, "refused: cause {cause}, place {place}, layer {layer} ({words})")
 }
 
 fn meaning(cause: Cause) -> &'static str {

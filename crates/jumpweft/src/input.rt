@@ -1,0 +1,41 @@
+// The text that a command is run on.
+use std::error::AnyError;
+use std::fs;
+use std::io;
+use words::place::Place;
+use super::arguments::Arguments;
+
+// A file's bytes, and the place from which they are read.
+#[derive(Drop)]
+pub struct Input {
+    pub text: Vec<u8>,
+    pub start: Place,
+}
+
+impl Input {
+    // The file and the place that the arguments name, where each option is one of these; none where the file cannot be
+    // read, and standard error then says why.
+    pub fn read(rt: &LibcRuntime, arguments: &Arguments, options: &[&str]) -> Result<Option<Input>, AnyError> {
+        if !arguments.only_options(options) {
+            return Err("an option that this command does not have".into());
+        }
+        let Some(file) = arguments.only_file() else {
+            return Err("this command takes one file".into());
+        };
+        let Some(text) = read_file(rt, file)? else {
+            return Ok(None);
+        };
+        let at = arguments.number("--at", 0)?;
+        Ok(Some(Input { text, start: Place { at } }))
+    }
+}
+
+fn read_file(rt: &LibcRuntime, file: &str) -> Result<Option<Vec<u8>>, io::Error> {
+    match fs::read(rt, file) {
+        Ok(text) => Ok(Some(text)),
+        Err(e) => {
+            eprintln!(rt, "jumpweft: {file}: {e}")?;
+            Ok(None)
+        }
+    }
+}

@@ -1,0 +1,2 @@
+// Shelves: where an examiner keeps its clauses.
+pub mod flat;
