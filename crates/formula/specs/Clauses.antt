@@ -32,7 +32,7 @@ abbrev pub judge-literal : ℕ → List Variable → ℕ → Bool → ℕ → Nu
 judge-literal known vs count repeated room n p =
     cond (leb 1024 count) (Err (refused 5 p 2))
     (cond (ltb known (n .value) || is-undeclared (variable-at vs (n .value) .kind)) (Err (refused 6 p 2))
-      (cond repeated (Err (refused 7 p 2)) (cond (leb room count) (Err (refused 8 p 2)) (Ok (literal-of n)))))
+    (cond repeated (Err (refused 7 p 2)) (cond (leb room count) (Err (refused 8 p 2)) (Ok (literal-of n)))))
 
 abbrev pub add-literal : ℕ → List Variable → List Literal → ℕ → Numeral → ℕ → Result Literal Refusal
 add-literal known vs done room n p = judge-literal known vs (length done) (names (n .value) done) room n p
@@ -43,7 +43,7 @@ clause-from known vs done [] room size = Err (text-ends size)
 clause-from known vs done (w ∷ ws) room size =
     and-then (literal-in w)
     (λ n. cond (eqb (n .value) 0) (Ok (done, ws, end-of w))
-      (and-then (add-literal known vs done room n (start-of w)) (λ l. clause-from known vs (done ++ l ∷ []) ws room size)))
+    (and-then (add-literal known vs done room n (start-of w)) (λ l. clause-from known vs (done ++ l ∷ []) ws room size)))
 
 -- Clauses that were read: where each stands, and their literals.
 pub record Clauses : Type 0 where

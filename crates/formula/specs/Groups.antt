@@ -69,14 +69,14 @@ abbrev pub add-universal : ℕ → Declared → ℕ → ℕ → Result Declared 
 add-universal known d v p =
     cond (leb 64 (d .universals)) (Err (refused 5 p 2))
     (and-then (fresh known (d .table) v p)
-      (λ _. Ok (record { universals = d .universals + 1; existentials = d .existentials; table = set (d .table) (v - 1) (record { kind = kind.Universal; position = d .universals + 1; dependencies = empty-word }) })))
+    (λ _. Ok (record { universals = d .universals + 1; existentials = d .existentials; table = set (d .table) (v - 1) (record { kind = kind.Universal; position = d .universals + 1; dependencies = empty-word }) })))
 
 -- v is the next existential, with these dependencies
 abbrev pub add-existential : ℕ → Declared → ValueWord → ℕ → ℕ → Result Declared Refusal
 add-existential known d w v p =
     cond (leb 4096 (d .existentials)) (Err (refused 5 p 2))
     (and-then (fresh known (d .table) v p)
-      (λ _. Ok (record { universals = d .universals; existentials = d .existentials + 1; table = set (d .table) (v - 1) (record { kind = kind.Existential; position = d .existentials + 1; dependencies = w }) })))
+    (λ _. Ok (record { universals = d .universals; existentials = d .existentials + 1; table = set (d .table) (v - 1) (record { kind = kind.Existential; position = d .existentials + 1; dependencies = w }) })))
 
 abbrev pub with-dependency : Variable → ℕ → Variable
 with-dependency x k = record { kind = x .kind; position = x .position; dependencies = union-word (x .dependencies) (single-word k) }
@@ -86,8 +86,8 @@ abbrev pub add-dependency : ℕ → Declared → ℕ → ℕ → ℕ → Result 
 add-dependency known d v u p =
     cond (eqb u 0 || ltb known u) (Err (refused 6 p 2))
     (cond (not (is-universal (variable-at (d .table) u .kind))) (Err (refused 6 p 2))
-      (cond (has-bit (variable-at (d .table) v .dependencies) (variable-at (d .table) u .position)) (Err (refused 7 p 2))
-        (Ok (record { universals = d .universals; existentials = d .existentials; table = set (d .table) (v - 1) (with-dependency (variable-at (d .table) v) (variable-at (d .table) u .position)) }))))
+    (cond (has-bit (variable-at (d .table) v .dependencies) (variable-at (d .table) u .position)) (Err (refused 7 p 2))
+    (Ok (record { universals = d .universals; existentials = d .existentials; table = set (d .table) (v - 1) (with-dependency (variable-at (d .table) v) (variable-at (d .table) u .position)) }))))
 
 -- v is declared under a quantifier; an existential so declared depends on every universal declared so far
 abbrev pub add-listed : Quantifier → ℕ → Declared → ℕ → ℕ → Result Declared Refusal
@@ -99,7 +99,7 @@ abbrev pub group-in : List ℕ → Option Group
 group-in bs =
     cond (eqb (length bs) 1)
     (cond (eqb (getD bs 0 0) 97) (Some (group.Listed quantifier.Universal))
-      (cond (eqb (getD bs 0 0) 101) (Some (group.Listed quantifier.Existential)) (cond (eqb (getD bs 0 0) 100) (Some group.Dependent) None)))
+    (cond (eqb (getD bs 0 0) 101) (Some (group.Listed quantifier.Existential)) (cond (eqb (getD bs 0 0) 100) (Some group.Dependent) None)))
     None
 
 -- the group that a word begins
@@ -132,7 +132,7 @@ groups-from known (listed quantifier) d [] q size = Err (text-ends size)
 groups-from known (listed quantifier) d (w ∷ ws) q size =
     and-then (number-in w)
     (λ v. cond (eqb v 0) (groups-from known outside d ws (end-of w) size)
-      (and-then (add-listed quantifier known d v (start-of w)) (λ d′. groups-from known (listed quantifier) d′ ws (end-of w) size)))
+    (and-then (add-listed quantifier known d v (start-of w)) (λ d′. groups-from known (listed quantifier) d′ ws (end-of w) size)))
 groups-from known dependent d [] q size = Err (text-ends size)
 groups-from known dependent d (w ∷ ws) q size =
     and-then (number-in w) (λ v. and-then (add-existential known d empty-word v (start-of w)) (λ d′. groups-from known (dependencies v) d′ ws (end-of w) size))
@@ -140,7 +140,7 @@ groups-from known (dependencies v) d [] q size = Err (text-ends size)
 groups-from known (dependencies v) d (w ∷ ws) q size =
     and-then (number-in w)
     (λ u. cond (eqb u 0) (groups-from known outside d ws (end-of w) size)
-      (and-then (add-dependency known d v u (start-of w)) (λ d′. groups-from known (dependencies v) d′ ws (end-of w) size)))
+    (and-then (add-dependency known d v u (start-of w)) (λ d′. groups-from known (dependencies v) d′ ws (end-of w) size)))
 
 -- what follows a part that was read; a refusal goes through unchanged
 abbrev pub followed : {X Y : Type 0} → Result X Fault → (X → Result Y Refusal) → Result Y Refusal

@@ -35,8 +35,8 @@ abbrev pub header-from : List Spelt → ℕ → ℕ → ℕ → Got (ℕ × ℕ)
 header-from ws variable-room clause-room size =
     and-then (name-from (112 ∷ []) ws size)
     (λ a. and-then (name-from (99 ∷ 110 ∷ 102 ∷ []) (a .1) size)
-      (λ b. and-then (count-from (λ n. eqb n 0 || ltb 65535 n) variable-room (b .1) size)
-        (λ v. and-then (count-from (λ n. ltb 16384 n) clause-room (v .1) size) (λ c. Ok ((v .0, c .0), c .1, c .2)))))
+    (λ b. and-then (count-from (λ n. eqb n 0 || ltb 65535 n) variable-room (b .1) size)
+    (λ v. and-then (count-from (λ n. ltb 16384 n) clause-room (v .1) size) (λ c. Ok ((v .0, c .0), c .1, c .2)))))
 
 -- A formula as its tables hold it, without the zeros behind them, and the place behind its last word.
 pub record Formula : Type 0 where
@@ -50,14 +50,14 @@ abbrev pub parts-from : List Spelt → ℕ → ℕ → ℕ → ℕ → Result Fo
 parts-from ws variable-room clause-room literal-room size =
     and-then (header-from ws variable-room clause-room size)
     (λ h. and-then (groups-from (h .0 .0) outside (nothing-declared (replicate variable-room no-variable)) (h .1) (h .2) size)
-      (λ d. and-then (clauses-from (h .0 .0) (d .0 .table) (h .0 .1) no-clause (d .1) (d .2) literal-room size)
-        (λ c. Ok (record {
-          head = record { variables = h .0 .0; clauses = h .0 .1; universals = d .0 .universals; existentials = d .0 .existentials };
-          variables = d .0 .table;
-          clauses = c .0 .spans;
-          literals = c .0 .literals;
-          place = c .2
-        }))))
+    (λ d. and-then (clauses-from (h .0 .0) (d .0 .table) (h .0 .1) no-clause (d .1) (d .2) literal-room size)
+    (λ c. Ok (record {
+      head = record { variables = h .0 .0; clauses = h .0 .1; universals = d .0 .universals; existentials = d .0 .existentials };
+      variables = d .0 .table;
+      clauses = c .0 .spans;
+      literals = c .0 .literals;
+      place = c .2;
+    }))))
 
 -- the formula that a text spells from a place on, for tables of these lengths
 abbrev pub formula-from : List ℕ → ℕ → ℕ → ℕ → ℕ → Result Formula Refusal

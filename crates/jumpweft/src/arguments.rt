@@ -39,6 +39,16 @@ impl Arguments {
         value_due
     }
 
+    // Whether there is an option at all.
+    pub fn has_options(&self) -> bool {
+        for word in self.rest() {
+            if word.as_str().starts_with("--") {
+                return true;
+            }
+        }
+        false
+    }
+
     // Whether each option is one of these.
     pub fn only_options(&self, options: &[&str]) -> bool {
         let mut value_due = false;

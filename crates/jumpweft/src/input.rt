@@ -1,9 +1,9 @@
 // The text that a command is run on.
+use super::arguments::Arguments;
 use std::error::AnyError;
 use std::fs;
 use std::io;
 use words::place::Place;
-use super::arguments::Arguments;
 
 // A file's bytes, and the place from which they are read.
 #[derive(Drop)]
@@ -15,19 +15,39 @@ pub struct Input {
 impl Input {
     // The file and the place that the arguments name, where each option is one of these; none where the file cannot be
     // read, and standard error then says why.
-    pub fn read(rt: &LibcRuntime, arguments: &Arguments, options: &[&str]) -> Result<Option<Input>, AnyError> {
+    pub fn read(
+        rt: &LibcRuntime,
+        arguments: &Arguments,
+        options: &[&str],
+    ) -> Result<Option<Input>, AnyError> {
         if !arguments.only_options(options) {
             return Err("an option that this command does not have".into());
         }
-        let Some(file) = arguments.only_file() else {
-            return Err("this command takes one file".into());
-        };
-        let Some(text) = read_file(rt, file)? else {
+        let Some(text) = read_only_file(rt, arguments)? else {
             return Ok(None);
         };
         let at = arguments.number("--at", 0)?;
-        Ok(Some(Input { text, start: Place { at } }))
+        Ok(Some(Input {
+            text,
+            start: Place { at },
+        }))
     }
+}
+
+// The bytes of the one file that the arguments name, where the command has no options; none where it cannot be read.
+pub fn read_plain(rt: &LibcRuntime, arguments: &Arguments) -> Result<Option<Vec<u8>>, AnyError> {
+    if arguments.has_options() {
+        return Err("this command has no options".into());
+    }
+    read_only_file(rt, arguments)
+}
+
+fn read_only_file(rt: &LibcRuntime, arguments: &Arguments) -> Result<Option<Vec<u8>>, AnyError> {
+    let Some(file) = arguments.only_file() else {
+        return Err("this command takes one file".into());
+    };
+    let text = read_file(rt, file)?;
+    Ok(text)
 }
 
 fn read_file(rt: &LibcRuntime, file: &str) -> Result<Option<Vec<u8>>, io::Error> {

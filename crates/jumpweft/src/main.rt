@@ -9,10 +9,11 @@ mod records_command;
 mod show;
 mod slip_command;
 
-use std::error::AnyError;
 use arguments::Arguments;
+use std::error::AnyError;
 
-const USAGE: &str = "usage: jumpweft formula FILE [--at PLACE] [--variables N] [--clauses N] [--literals N]
+const USAGE: &str =
+    "usage: jumpweft formula FILE [--at PLACE] [--variables N] [--clauses N] [--literals N]
        jumpweft circuit FILE [--at PLACE] [--outputs N] [--gates N]
        jumpweft records FILE
        jumpweft slip FILE";

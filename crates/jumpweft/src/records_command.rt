@@ -1,20 +1,20 @@
 // `jumpweft records`: prints each record of a proof file, up to the first that is refused.
+use super::arguments::Arguments;
+use super::input::read_plain;
+use super::show;
+use records::record::read_record;
+use records::step::Premise;
+use records::step::Step;
 use std::error::AnyError;
 use std::io;
 use std::io::BufWriter;
 use std::io::Write;
-use records::record::read_record;
-use records::step::Premise;
-use records::step::Step;
-use super::arguments::Arguments;
-use super::input::Input;
-use super::show;
 
 pub fn run(rt: &LibcRuntime, arguments: &Arguments) -> Result<bool, AnyError> {
-    let Some(input) = Input::read(rt, arguments, &[])? else {
+    let Some(bytes) = read_plain(rt, arguments)? else {
         return Ok(false);
     };
-    let accepted = print_records(rt, input.text.as_slice())?;
+    let accepted = print_records(rt, bytes.as_slice())?;
     Ok(accepted)
 }
 
@@ -30,7 +30,12 @@ fn print_records(rt: &LibcRuntime, bytes: &[u8]) -> Result<bool, io::Error> {
         let number = count.saturating_add(1);
         let (read, behind) = read_record(rest);
         match read {
-            Ok(step) => print_record(&mut out, number, rest.len().saturating_sub(behind.len()), step)?,
+            Ok(step) => print_record(
+                &mut out,
+                number,
+                rest.len().saturating_sub(behind.len()),
+                step,
+            )?,
             Err(fault) => {
                 let at = bytes.len().saturating_sub(rest.len());
                 writeln!(out, "record {number}, at byte {at}")?;
@@ -48,18 +53,34 @@ fn print_records(rt: &LibcRuntime, bytes: &[u8]) -> Result<bool, io::Error> {
     Ok(true)
 }
 
-fn print_record<W: Write>(out: &mut W, number: usize, used: usize, step: Step) -> Result<(), io::Error> {
+fn print_record<W: Write>(
+    out: &mut W,
+    number: usize,
+    used: usize,
+    step: Step,
+) -> Result<(), io::Error> {
     write!(out, "record {number}, {used} bytes: ")?;
     match step {
         Step::Premise(premise) => print_premise(out, premise),
-        Step::Resolve { first, second, position } => writeln!(out, "resolve {first}, {second}, position {position}"),
+        Step::Resolve {
+            first,
+            second,
+            position,
+        } => writeln!(out, "resolve {first}, {second}, position {position}"),
         Step::Settle { goal, clause } => writeln!(out, "settle goal {goal}, clause {clause}"),
     }
 }
 
 fn print_premise<W: Write>(out: &mut W, premise: Premise) -> Result<(), io::Error> {
     match premise {
-        Premise::Truth { class, number, part } => writeln!(out, "truth premise, class {class}, number {number}, part {part}"),
+        Premise::Truth {
+            class,
+            number,
+            part,
+        } => writeln!(
+            out,
+            "truth premise, class {class}, number {number}, part {part}"
+        ),
         Premise::Falsity { clause, values } => {
             let word = values.bits;
             writeln!(out, "falsity premise, clause {clause}, values {word:016x}")

@@ -1,8 +1,8 @@
 // What both commands show: the used part of a table, and what became of a text.
-use std::io;
-use std::io::Write;
 use base::faults::Cause;
 use base::faults::Fault;
+use std::io;
+use std::io::Write;
 use words::place::Place;
 
 // The first n entries, or all where there are fewer.
@@ -26,7 +26,10 @@ pub fn refusal(rt: &LibcRuntime, fault: Fault) -> Result<(), io::Error> {
     let place = fault.place;
     let layer = fault.layer.number();
     let words = meaning(fault.cause);
-    println!(rt, "refused: cause {cause}, place {place}, layer {layer} ({words})")
+    println!(
+        rt,
+        "refused: cause {cause}, place {place}, layer {layer} ({words})"
+    )
 }
 
 fn meaning(cause: Cause) -> &'static str {

@@ -158,7 +158,7 @@ spelt-append p [] us = ap (λ q. spelt q us) (omega arith)
 spelt-append p (t ∷ ts) us =
     ap (λ ws. spelt-at p t ∷ ws)
     (spelt-append (p + length (token-bytes t) + 1) ts us
-     ∙ ap (λ q. spelt (p + length (token-bytes t) + 1) ts ++ spelt q us) (omega (arith, length-text-of (token-bytes t) (map token-bytes ts))))
+    ∙ ap (λ q. spelt (p + length (token-bytes t) + 1) ts ++ spelt q us) (omega (arith, length-text-of (token-bytes t) (map token-bytes ts))))
 
 -- some text has the words of these tokens
 pub some-text : (ts : List Token) → All Good ts → (text : List ℕ) × (All (λ b. b < 256) text) × (words-from text 0 ≡ spelt 0 ts)

@@ -56,8 +56,8 @@ cut-word (b ∷ bs) p h =
     ⊎-elim
     (λ e. absurd (omega (arith, inked-yes b bs e)))
     (λ e.
-        cut-no b bs p e
-        ∙ ap (λ ws. classed (take (inked (b ∷ bs)) (b ∷ bs)) p ∷ ws) (cut-skip (inked bs) bs (p + 1) ∙ ap (cut 0 (drop (inked bs) bs)) (omega arith) ∙ ap (λ n. cut 0 (drop n (b ∷ bs)) (p + n)) (sym (inked-no b bs e))))
+    cut-no b bs p e
+    ∙ ap (λ ws. classed (take (inked (b ∷ bs)) (b ∷ bs)) p ∷ ws) (cut-skip (inked bs) bs (p + 1) ∙ ap (cut 0 (drop (inked bs) bs)) (omega arith) ∙ ap (λ n. cut 0 (drop n (b ∷ bs)) (p + n)) (sym (inked-no b bs e))))
     (cases-bool (blank b))
 
 pub cut-none : (bs : List ℕ) (p : ℕ) → blanks bs ≡ 0 → inked bs ≡ 0 → cut 0 bs p ≡ []

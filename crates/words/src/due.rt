@@ -6,19 +6,23 @@ ghost use Rattle.std.specs.Vec.{made};
 ghost use Rattle.base.specs.Causes.{told};
 ghost use Rattle.words.specs.Words.{words-from};
 ghost use Rattle.words.specs.Due.{got, no-number, no-literal, number-from, literal-from, name-from, same, Further};
-use base::faults::Cause;
-use base::faults::Fault;
-use base::faults::Layer;
 use super::forms::Numeral;
 use super::forms::is_over_nine;
 use super::place::Place;
 use super::word::Word;
 use super::word::take_word;
+use base::faults::Cause;
+use base::faults::Fault;
+use base::faults::Layer;
 
 fn word_fault(cause: Cause, place: usize) -> Fault
     ensures { λ r. ⌜ r ≡ record { cause = cause; place = place; layer = Layer.Words } ⌝ }
 {
-    Fault { cause, place, layer: Layer::Words }
+    Fault {
+        cause,
+        place,
+        layer: Layer::Words,
+    }
 }
 
 // The refusal of a word that is no number where one is due.

@@ -69,8 +69,14 @@ pub(crate) fn numeral_of(word: &[u8]) -> Option<Numeral>
         if value == 0 {
             return None;
         }
-        return Some(Numeral { negative: true, value });
+        return Some(Numeral {
+            negative: true,
+            value,
+        });
     }
     let value = number_of(word)?;
-    Some(Numeral { negative: false, value })
+    Some(Numeral {
+        negative: false,
+        value,
+    })
 }

@@ -22,6 +22,10 @@ impl Drop for KeptPlace<'_> {
         if !self.confirmed {
             *self.place = self.saved;
         }
-        let KeptPlace { place: _, saved: _, confirmed: _ } = self;
+        let KeptPlace {
+            place: _,
+            saved: _,
+            confirmed: _,
+        } = self;
     }
 }

@@ -7,6 +7,9 @@ ghost use Rattle.words.specs.Words.{words-from};
 ghost use Rattle.words.specs.Due.{Further};
 ghost use Rattle.words.specs.Tables.{answer};
 ghost use Rattle.formula.specs.Groups.{fresh, declared, told-declared, add-universal, add-existential, add-listed, add-dependency, group-in, inside, went, followed, groups-from, Begins, told-groups, nothing-declared, Where};
+use super::super::tables::Kind;
+use super::super::tables::Variable;
+use super::formula_fault;
 use base::faults::Cause;
 use base::faults::Fault;
 use base::values::ValueWord;
@@ -14,9 +17,6 @@ use words::due::read_number;
 use words::place::Place;
 use words::word::Word;
 use words::word::take_word;
-use super::formula_fault;
-use super::super::tables::Kind;
-use super::super::tables::Variable;
 
 // How many universals and existentials are declared so far.
 #[derive(Clone, Copy, PartialEq, Eq, Debug)]
@@ -66,7 +66,13 @@ fn check_fresh(vars: &[Variable], known: u32, v: u32, at: usize) -> Result<(), F
 }
 
 // Declares v, which stands at a place, as the next universal.
-fn declare_universal(vars: &mut [Variable], known: u32, counts: Counts, v: u32, at: usize) -> Result<Counts, Fault>
+fn declare_universal(
+    vars: &mut [Variable],
+    known: u32,
+    counts: Counts,
+    v: u32,
+    at: usize,
+) -> Result<Counts, Fault>
     requires { ⌜ known ≤ length (now vars) ⌝ }
     ensures { λ r. ⌜ told-declared r (now (vars .exit)) ≡ add-universal known (declared counts (now (vars .entry))) v at ⌝ }
 {
@@ -75,12 +81,26 @@ fn declare_universal(vars: &mut [Variable], known: u32, counts: Counts, v: u32, 
     }
     check_fresh(vars, known, v, at)?;
     let universals = counts.universals + 1;
-    vars[v as usize - 1] = Variable { kind: Kind::Universal, position: universals, dependencies: ValueWord::empty() };
-    Ok(Counts { universals, existentials: counts.existentials })
+    vars[v as usize - 1] = Variable {
+        kind: Kind::Universal,
+        position: universals,
+        dependencies: ValueWord::empty(),
+    };
+    Ok(Counts {
+        universals,
+        existentials: counts.existentials,
+    })
 }
 
 // Declares v, which stands at a place, as the next existential, with these dependencies.
-fn declare_existential(vars: &mut [Variable], known: u32, counts: Counts, dependencies: ValueWord, v: u32, at: usize) -> Result<Counts, Fault>
+fn declare_existential(
+    vars: &mut [Variable],
+    known: u32,
+    counts: Counts,
+    dependencies: ValueWord,
+    v: u32,
+    at: usize,
+) -> Result<Counts, Fault>
     requires { ⌜ known ≤ length (now vars) ⌝ }
     ensures is { λ r. ⌜ told-declared r (now (vars .exit)) ≡ add-existential known (declared counts (now (vars .entry))) dependencies v at ⌝ }
     ensures within { λ r. ⌜ made r (λ _. (0 < v) × (v ≤ known)) ⌝ }
@@ -90,12 +110,26 @@ fn declare_existential(vars: &mut [Variable], known: u32, counts: Counts, depend
     }
     check_fresh(vars, known, v, at)?;
     let existentials = counts.existentials + 1;
-    vars[v as usize - 1] = Variable { kind: Kind::Existential, position: existentials, dependencies };
-    Ok(Counts { universals: counts.universals, existentials })
+    vars[v as usize - 1] = Variable {
+        kind: Kind::Existential,
+        position: existentials,
+        dependencies,
+    };
+    Ok(Counts {
+        universals: counts.universals,
+        existentials,
+    })
 }
 
 // Lets the existential v depend on u, which stands at a place.
-fn declare_dependency(vars: &mut [Variable], known: u32, counts: Counts, v: u32, u: u32, at: usize) -> Result<(), Fault>
+fn declare_dependency(
+    vars: &mut [Variable],
+    known: u32,
+    counts: Counts,
+    v: u32,
+    u: u32,
+    at: usize,
+) -> Result<(), Fault>
     requires { ⌜ known ≤ length (now vars) ⌝ ∗ ⌜ 0 < v ⌝ ∗ ⌜ v ≤ known ⌝ }
     ensures { λ r. ⌜ went r (declared counts (now (vars .exit))) ≡ add-dependency known (declared counts (now (vars .entry))) v u at ⌝ }
 {
@@ -109,13 +143,21 @@ fn declare_dependency(vars: &mut [Variable], known: u32, counts: Counts, v: u32,
     if vars[v as usize - 1].dependencies.has(universal.position) {
         return Err(formula_fault(Cause::VariableTwice, at));
     }
-    let dependencies = vars[v as usize - 1].dependencies.union(ValueWord::single(universal.position));
+    let dependencies = vars[v as usize - 1].dependencies
+        .union(ValueWord::single(universal.position));
     vars[v as usize - 1].dependencies = dependencies;
     Ok(())
 }
 
 // Declares v under a quantifier; an existential so declared depends on every universal declared so far.
-fn declare(vars: &mut [Variable], known: u32, counts: Counts, quantifier: Quantifier, v: u32, at: usize) -> Result<Counts, Fault>
+fn declare(
+    vars: &mut [Variable],
+    known: u32,
+    counts: Counts,
+    quantifier: Quantifier,
+    v: u32,
+    at: usize,
+) -> Result<Counts, Fault>
     requires { ⌜ known ≤ length (now vars) ⌝ }
     ensures { λ r. ⌜ told-declared r (now (vars .exit)) ≡ add-listed quantifier known (declared counts (now (vars .entry))) v at ⌝ }
 {
@@ -129,7 +171,14 @@ fn declare(vars: &mut [Variable], known: u32, counts: Counts, quantifier: Quanti
 }
 
 // The rest of an `a` or an `e` group, up to its 0.
-fn read_listed(text: &[u8], place: &mut Place, known: u32, counts: Counts, quantifier: Quantifier, vars: &mut [Variable]) -> Result<Counts, Fault>
+fn read_listed(
+    text: &[u8],
+    place: &mut Place,
+    known: u32,
+    counts: Counts,
+    quantifier: Quantifier,
+    vars: &mut [Variable],
+) -> Result<Counts, Fault>
     requires { ⌜ known ≤ length (now vars) ⌝ }
     ensures is { λ r. ⌜ followed r (λ c. groups-from known Where.outside (declared c (now (vars .exit))) (words-from (now (text .entry)) (now (place .exit) .at)) (now (place .exit) .at) (length (now (text .entry)))) ≡ groups-from known (Where.listed quantifier) (declared counts (now (vars .entry))) (words-from (now (text .entry)) (now (place .entry) .at)) (now (place .entry) .at) (length (now (text .entry))) ⌝ }
     ensures onward { λ r. ⌜ made r (λ _. Further (now (place .entry) .at) (now (place .exit) .at) (length (now (text .entry)))) ⌝ }
@@ -145,7 +194,14 @@ fn read_listed(text: &[u8], place: &mut Place, known: u32, counts: Counts, quant
 }
 
 // The dependencies of v, up to their 0.
-fn read_dependencies(text: &[u8], place: &mut Place, known: u32, counts: Counts, v: u32, vars: &mut [Variable]) -> Result<(), Fault>
+fn read_dependencies(
+    text: &[u8],
+    place: &mut Place,
+    known: u32,
+    counts: Counts,
+    v: u32,
+    vars: &mut [Variable],
+) -> Result<(), Fault>
     requires { ⌜ known ≤ length (now vars) ⌝ ∗ ⌜ 0 < v ⌝ ∗ ⌜ v ≤ known ⌝ }
     ensures is { λ r. ⌜ followed r (λ _. groups-from known Where.outside (declared counts (now (vars .exit))) (words-from (now (text .entry)) (now (place .exit) .at)) (now (place .exit) .at) (length (now (text .entry)))) ≡ groups-from known (Where.dependencies v) (declared counts (now (vars .entry))) (words-from (now (text .entry)) (now (place .entry) .at)) (now (place .entry) .at) (length (now (text .entry))) ⌝ }
     ensures onward { λ r. ⌜ made r (λ _. Further (now (place .entry) .at) (now (place .exit) .at) (length (now (text .entry)))) ⌝ }
@@ -160,7 +216,13 @@ fn read_dependencies(text: &[u8], place: &mut Place, known: u32, counts: Counts,
 }
 
 // The rest of a `d` group: the variable that it declares, then its dependencies.
-fn read_dependent(text: &[u8], place: &mut Place, known: u32, counts: Counts, vars: &mut [Variable]) -> Result<Counts, Fault>
+fn read_dependent(
+    text: &[u8],
+    place: &mut Place,
+    known: u32,
+    counts: Counts,
+    vars: &mut [Variable],
+) -> Result<Counts, Fault>
     requires { ⌜ known ≤ length (now vars) ⌝ }
     ensures is { λ r. ⌜ followed r (λ c. groups-from known Where.outside (declared c (now (vars .exit))) (words-from (now (text .entry)) (now (place .exit) .at)) (now (place .exit) .at) (length (now (text .entry)))) ≡ groups-from known Where.dependent (declared counts (now (vars .entry))) (words-from (now (text .entry)) (now (place .entry) .at)) (now (place .entry) .at) (length (now (text .entry))) ⌝ }
     ensures onward { λ r. ⌜ made r (λ _. Further (now (place .entry) .at) (now (place .exit) .at) (length (now (text .entry)))) ⌝ }
@@ -172,7 +234,14 @@ fn read_dependent(text: &[u8], place: &mut Place, known: u32, counts: Counts, va
 }
 
 // A group behind its letter.
-fn read_group(text: &[u8], place: &mut Place, known: u32, counts: Counts, group: Group, vars: &mut [Variable]) -> Result<Counts, Fault>
+fn read_group(
+    text: &[u8],
+    place: &mut Place,
+    known: u32,
+    counts: Counts,
+    group: Group,
+    vars: &mut [Variable],
+) -> Result<Counts, Fault>
     requires { ⌜ known ≤ length (now vars) ⌝ }
     ensures is { λ r. ⌜ followed r (λ c. groups-from known Where.outside (declared c (now (vars .exit))) (words-from (now (text .entry)) (now (place .exit) .at)) (now (place .exit) .at) (length (now (text .entry)))) ≡ groups-from known (inside group) (declared counts (now (vars .entry))) (words-from (now (text .entry)) (now (place .entry) .at)) (now (place .entry) .at) (length (now (text .entry))) ⌝ }
     ensures onward { λ r. ⌜ made r (λ _. Further (now (place .entry) .at) (now (place .exit) .at) (length (now (text .entry)))) ⌝ }
@@ -202,11 +271,19 @@ fn next_group(text: &[u8], place: &mut Place) -> Option<Group>
 }
 
 // Groups up to the first word that begins none.
-pub(crate) fn read_groups(text: &[u8], place: &mut Place, known: u32, vars: &mut [Variable]) -> Result<Counts, Fault>
+pub(crate) fn read_groups(
+    text: &[u8],
+    place: &mut Place,
+    known: u32,
+    vars: &mut [Variable],
+) -> Result<Counts, Fault>
     requires { ⌜ known ≤ length (now vars) ⌝ }
     ensures { λ r. ⌜ told-groups r (now (vars .exit)) (words-from (now (text .entry)) (now (place .exit) .at)) (now (place .exit) .at) ≡ groups-from known Where.outside (nothing-declared (now (vars .entry))) (words-from (now (text .entry)) (now (place .entry) .at)) (now (place .entry) .at) (length (now (text .entry))) ⌝ }
 {
-    let mut counts = Counts { universals: 0, existentials: 0 };
+    let mut counts = Counts {
+        universals: 0,
+        existentials: 0,
+    };
     while let Some(group) = next_group(text, place) {
         counts = read_group(text, place, known, counts, group, vars)?;
     }

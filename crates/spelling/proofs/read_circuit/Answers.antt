@@ -7,5 +7,5 @@ returns c =
     record {
       is = c .read-circuit .ensures;
       spelt = circuit-accepts (c .args .text .now) (c .args .place .now .at) (c .read-circuit .last .place .at) (c .read-circuit .result)
-        (length (c .args .outputs .now)) (length (c .args .gates .now)) (c .read-circuit .last .outputs) (c .read-circuit .last .gates) (c .read-circuit .ensures);
+          (length (c .args .outputs .now)) (length (c .args .gates .now)) (c .read-circuit .last .outputs) (c .read-circuit .last .gates) (c .read-circuit .ensures);
     }

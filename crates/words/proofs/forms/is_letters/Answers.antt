@@ -9,8 +9,8 @@ use Rattle.words.proofs.forms.is_letters.Needs.{then-b-lt97·by·then-b-lt97, 
 pub returns-then-b-lt97 : need.returns-then-b-lt97
 returns-then-b-lt97 c =
     elim (c .then-b-lt97 .came) [
-      then-b-lt97·by·then-b-lt97 w ↦ sym (letters-low _ _ (c .loop-b-test .taken) (w .if-b-lt97 .taken)) ∙ c .loop-b .inv
-    | then-b-lt97·by·else-b-lt97·then-b-gt122 w ↦ sym (letters-high _ _ (c .loop-b-test .taken) (w .if-b-gt122 .taken)) ∙ c .loop-b .inv
+      | then-b-lt97·by·then-b-lt97 w ↦ sym (letters-low _ _ (c .loop-b-test .taken) (w .if-b-lt97 .taken)) ∙ c .loop-b .inv
+      | then-b-lt97·by·else-b-lt97·then-b-gt122 w ↦ sym (letters-high _ _ (c .loop-b-test .taken) (w .if-b-gt122 .taken)) ∙ c .loop-b .inv
     ]
 
 pub loop-b-again : need.loop-b-again

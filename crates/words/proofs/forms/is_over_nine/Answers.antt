@@ -11,10 +11,10 @@ use Rattle.words.proofs.forms.is_over_nine.Needs.{then-b-lt48·by·then-b-lt48
 pub returns-then-b-lt48 : need.returns-then-b-lt48
 returns-then-b-lt48 c =
     let no : digits (c .args .word .now) ≡ false =
-        elim (c .then-b-lt48 .came) [
-          then-b-lt48·by·then-b-lt48 w ↦ sym (c .loop-b .inv) ∙ digits-low _ _ (c .loop-b-test .taken) (w .if-b-lt48 .taken)
-        | then-b-lt48·by·else-b-lt48·then-b-gt57 w ↦ sym (c .loop-b .inv) ∙ digits-high _ _ (c .loop-b-test .taken) (w .if-b-gt57 .taken)
-        ]
+    elim (c .then-b-lt48 .came) [
+      | then-b-lt48·by·then-b-lt48 w ↦ sym (c .loop-b .inv) ∙ digits-low _ _ (c .loop-b-test .taken) (w .if-b-lt48 .taken)
+      | then-b-lt48·by·else-b-lt48·then-b-gt57 w ↦ sym (c .loop-b .inv) ∙ digits-high _ _ (c .loop-b-test .taken) (w .if-b-gt57 .taken)
+    ]
     in
     search needs
 

@@ -1,0 +1,4 @@
+pub mod Shelves
+pub mod Laid
+pub mod Plain
+pub mod Means

@@ -1,0 +1,5 @@
+// The engine of steps and goals: a shelf of clauses, a side with its premises and goals, and the examiner of both.
+pub mod examiner;
+pub mod shelf;
+pub mod side;
+pub mod ticket;
