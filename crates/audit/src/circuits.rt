@@ -1,7 +1,7 @@
 // The audit of circuit tables.
 ghost use mathlib.Core.Path.{_≡_};
 ghost use lib.ListN.{length};
-ghost use Prim.Native.Nat.{ℕ, _+_, _≤_};
+ghost use Prim.Native.Nat.{_+_, _≤_};
 ghost use Rattle.std.specs.Orderings.{Decides};
 ghost use Rattle.audit.specs.CircuitAudit.{counts-lawful, zero-outputs, zero-gates, outputs-lawful, gates-lawful, circuit-lawful, Left-by-a-circuit-text};
 use circuit::tables::CircuitHead;

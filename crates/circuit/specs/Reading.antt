@@ -1,17 +1,17 @@
 -- What the reader of circuit texts answers, by recursion on the counts over the words that are left.
 use mathlib.Core.Path.{_≡_}
-use mathlib.Core.Bool.{Bool, true, false, cond, not, _||_}
+use mathlib.Core.Bool.{Bool, cond, not}
 use mathlib.Core.List.{List, [], _∷_, _++_}
-use Prim.Native.Nat.{ℕ, zero, suc, _+_, _-_, _*_, _≤_}
-use lib.Dec.{leb, ltb, eqb}
+use Prim.Native.Nat.{ℕ, zero, suc, _+_, _*_, _≤_}
+use lib.Dec.{ltb, eqb}
 use lib.ListN.{length, take, replicate}
 use Rattle.std.specs.declared.result.Result.{Result}
 use Rattle.std.specs.declared.result.Result.the-variants.{Ok, Err}
 use Rattle.base.specs.declared.faults.Fault.{Fault}
-use Rattle.base.specs.Causes.{Refusal, told, refused}
+use Rattle.base.specs.Causes.{Refusal, told, refused, answered}
 use Rattle.words.specs.Words.{Spelt, words-from}
 use Rattle.words.specs.Due.{Got, and-then, number-from, name-from}
-use Rattle.words.specs.Tables.{padded, answer, Kept}
+use Rattle.words.specs.Tables.{padded, Kept}
 use Rattle.circuit.specs.declared.tables.CircuitHead.{CircuitHead}
 use Rattle.circuit.specs.declared.tables.Gate.{Gate}
 
@@ -122,7 +122,7 @@ place-read (Err e) p = p
 
 -- a reader's answer, and what it leaves in the tables and the place that it was lent
 pub record Agrees (c : Result Circuit Refusal) (r : Result CircuitHead Fault) (output-room : ℕ) (os : List ℕ) (gate-room : ℕ) (gs : List Gate) (p q : ℕ) : Type 0 where
-  pub head : answer r ≡ head-read c
+  pub head : answered r ≡ head-read c
   pub outputs : os ≡ outputs-read c output-room
   pub gates : gs ≡ gates-read c gate-room
   pub place : q ≡ place-read c p

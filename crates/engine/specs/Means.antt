@@ -12,7 +12,7 @@ use Rattle.engine.specs.declared.examiner.Examiner.{Examiner}
 use Rattle.engine.specs.declared.side.Side.{Ghosts as SideGhosts}
 use Rattle.engine.specs.declared.shelf.Shelf.{Ghosts as ShelfGhosts}
 use Rattle.engine.specs.declared.ticket.Ticket.{Ticket}
-use Rattle.engine.specs.Plain.{Rules, State, start, opened, take-result, take-used, close-slip, closed}
+use Rattle.engine.specs.Plain.{Rules, State, opened, take-result, take-used, close-slip, closed}
 
 module _ {S F : Type 0} (side : SideGhosts S) (shelf : ShelfGhosts F) where
   abbrev pub rules : S → F → Rules

@@ -2,7 +2,7 @@
 ghost use mathlib.Core.Path.{_≡_};
 ghost use mathlib.Core.List.{List, []};
 ghost use Prim.Native.Nat.{ℕ, _≤_, min};
-ghost use lib.ListN.{length, take, drop};
+ghost use lib.ListN.{length, take};
 ghost use Rattle.clauses.specs.Clauses.{over};
 ghost use Rattle.clauses.specs.declared.entry.Entry.{Entry};
 ghost use Rattle.engine.specs.Shelves.{entries-in, clause-at, entry-at, filed-number, filed-list};

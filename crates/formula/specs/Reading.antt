@@ -8,10 +8,10 @@ use lib.ListN.{length, replicate}
 use Rattle.std.specs.declared.result.Result.{Result}
 use Rattle.std.specs.declared.result.Result.the-variants.{Ok, Err}
 use Rattle.base.specs.declared.faults.Fault.{Fault}
-use Rattle.base.specs.Causes.{Refusal, refused}
+use Rattle.base.specs.Causes.{Refusal, refused, answered}
 use Rattle.words.specs.Words.{Spelt, words-from}
 use Rattle.words.specs.Due.{Got, and-then, number-from, name-from}
-use Rattle.words.specs.Tables.{padded, answer}
+use Rattle.words.specs.Tables.{padded}
 use Rattle.formula.specs.declared.tables.Clause.{Clause}
 use Rattle.formula.specs.declared.tables.Head.{Head}
 use Rattle.formula.specs.declared.tables.Literal.{Literal}
@@ -92,7 +92,7 @@ pub record Tables : Type 0 where
 
 -- a reader's answer, and what it leaves in the tables and the place that it was lent
 pub record Agrees (f : Result Formula Refusal) (r : Result Head Fault) (was is : Tables) (p q : ℕ) : Type 0 where
-  pub head : answer r ≡ head-read f
+  pub head : answered r ≡ head-read f
   pub variables : is .variables ≡ variables-read f (length (was .variables))
   pub clauses : is .clauses ≡ clauses-read f (length (was .clauses))
   pub literals : is .literals ≡ literals-read f (length (was .literals))

@@ -1,11 +1,11 @@
 // The reader of formula texts: `p cnf V C`, then groups of declarations, then C clauses.
 ghost use mathlib.Core.Path.{_≡_};
-ghost use Prim.Native.Nat.{ℕ, _≤_};
+ghost use Prim.Native.Nat.{_≤_};
 ghost use lib.ListN.{length, replicate};
 ghost use Rattle.std.specs.Vec.{made};
 ghost use Rattle.words.specs.Words.{words-from};
 ghost use Rattle.words.specs.Due.{got};
-ghost use Rattle.words.specs.Tables.{answer};
+ghost use Rattle.base.specs.Causes.{answered};
 ghost use Rattle.formula.specs.Groups.{no-variable};
 ghost use Rattle.formula.specs.Reading.{header-from, formula-from, head-read, Agrees, no-span, no-literal};
 use self::clauses::read_clauses;
@@ -76,7 +76,7 @@ fn read_into(
     literals: &mut [Literal],
 ) -> Result<Head, Fault>
     requires { ⌜ now vars ≡ replicate (length (now vars)) no-variable ⌝ ∗ ⌜ now clauses ≡ replicate (length (now clauses)) no-span ⌝ ∗ ⌜ now literals ≡ replicate (length (now literals)) no-literal ⌝ }
-    ensures is { λ r. ⌜ answer r ≡ head-read (formula-from (now (text .entry)) (now (place .entry) .at) (length (now (vars .entry))) (length (now (clauses .entry))) (length (now (literals .entry)))) ⌝ }
+    ensures is { λ r. ⌜ answered r ≡ head-read (formula-from (now (text .entry)) (now (place .entry) .at) (length (now (vars .entry))) (length (now (clauses .entry))) (length (now (literals .entry)))) ⌝ }
     ensures filled { λ r. ⌜ made r (λ _. Agrees (formula-from (now (text .entry)) (now (place .entry) .at) (length (now (vars .entry))) (length (now (clauses .entry))) (length (now (literals .entry)))) r (record { variables = now (vars .entry); clauses = now (clauses .entry); literals = now (literals .entry) }) (record { variables = now (vars .exit); clauses = now (clauses .exit); literals = now (literals .exit) }) (now (place .entry) .at) (now (place .exit) .at)) ⌝ }
 {
     if text.len() > LONGEST_TEXT {

@@ -11,11 +11,11 @@ use Rattle.std.proofs.shelf.Lists.{take-append-drop}
 use Rattle.std.proofs.shelf.Tests.{le-leb}
 use Rattle.std.proofs.shelf.Ways.{tells}
 use Rattle.base.specs.declared.faults.Fault.{Fault}
-use Rattle.base.specs.Causes.{Refusal, told}
+use Rattle.base.specs.Causes.{answered, Refusal, told}
 use Rattle.records.specs.declared.slip.Slip.{Slip}
 use Rattle.records.specs.declared.slip.Slip.the-variants as slip
 use Rattle.records.specs.Bytes.{bytes-of}
-use Rattle.records.specs.Slips.{Lawful-slip, Made-by, Reads-slip, begins-slip, verdict-number, case-of, clauses-of, goal-of, fields-bytes, slip-bytes, slip-by, slip-from, told-slip}
+use Rattle.records.specs.Slips.{Lawful-slip, Made-by, Reads-slip, begins-slip, verdict-number, case-of, clauses-of, goal-of, fields-bytes, slip-bytes, slip-by, slip-from}
 use Rattle.records.proofs.ByteLaws.{number-of-bytes, elements, split-at}
 
 -- sixteen bytes read as their verdict's number and three fields
@@ -69,10 +69,10 @@ fields-whole bs case clauses goal h e f g =
 
 -- What a reader answers that makes its slip of those fields.
 module _ (bs : List ℕ) (verdict case clauses goal : ℕ) (whole : bs ≡ fields-bytes verdict case clauses goal ++ drop 16 bs) where
-  pub slip-told : (r : Result Slip Fault) → case < 2 ^ 32 → clauses < 2 ^ 32 → goal < 2 ^ 32 → told-slip r ≡ slip-by verdict case clauses goal → told-slip r ≡ slip-from bs
+  pub slip-told : (r : Result Slip Fault) → case < 2 ^ 32 → clauses < 2 ^ 32 → goal < 2 ^ 32 → answered r ≡ slip-by verdict case clauses goal → answered r ≡ slip-from bs
   slip-told r c s g e = e ∙ sym (ap slip-from whole ∙ fields-read verdict case clauses goal (drop 16 bs) c s g)
 
-  pub slip-law : (r : Result Slip Fault) → told-slip r ≡ slip-from bs → Made-by verdict case clauses goal r → Reads-slip bs r
+  pub slip-law : (r : Result Slip Fault) → answered r ≡ slip-from bs → Made-by verdict case clauses goal r → Reads-slip bs r
   slip-law (Ok s) e m =
       let front : take 16 bs ≡ fields-bytes verdict case clauses goal = ap (take 16) whole in
       (m .0, front ∙ rw (m .1, m .2, m .3, m .4))

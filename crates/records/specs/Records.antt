@@ -56,10 +56,6 @@ abbrev pub rest-from : List ℕ → List ℕ
 rest-from bs =
     cond (begins bs 6 1) (drop 8 bs) (cond (begins bs 12 2) (drop 14 bs) (cond (begins bs 12 3) (drop 14 bs) (cond (begins bs 8 4) (drop 10 bs) bs)))
 
-abbrev pub told-step : Result Step Fault → Result Step Refusal
-told-step (Ok s) = Ok s
-told-step (Err e) = Err (told e)
-
 -- What is read is the record of its step and the bytes behind it; what is refused begins with no step's record.
 abbrev pub Reads : List ℕ → Result Step Fault → List ℕ → Type 0
 Reads bs (Ok s) rest = Fits s × (bs ≡ record-of s ++ rest)

@@ -76,10 +76,6 @@ begins-slip bs = eqb (getD bs 0 0) 0 && eqb (getD bs 1 0) 14 && eqb (getD bs 2 0
 abbrev pub slip-from : List ℕ → Result Slip Refusal
 slip-from bs = cond (begins-slip bs) (slip-by (getD bs 3 0) (field bs 4 4) (field bs 8 4) (field bs 12 4)) (Err malformed)
 
-abbrev pub told-slip : Result Slip Fault → Result Slip Refusal
-told-slip (Ok s) = Ok s
-told-slip (Err e) = Err (told e)
-
 -- What is read is lawful, and its bytes are the first sixteen; what is refused begins with no lawful slip's bytes.
 abbrev pub Reads-slip : List ℕ → Result Slip Fault → Type 0
 Reads-slip bs (Ok s) = Lawful-slip s × (take 16 bs ≡ slip-bytes s)

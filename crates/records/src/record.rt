@@ -1,8 +1,8 @@
 // Records: the steps of a proof as bytes, each with its length in front.
 ghost use mathlib.Core.Path.{_≡_};
 ghost use lib.ListN.{length};
-ghost use Rattle.base.specs.Causes.{told};
-ghost use Rattle.records.specs.Records.{Reads, Reads-back, Writes, malformed, put-count, put-front, rest-from, step-from, told-step, written-count, written-into};
+ghost use Rattle.base.specs.Causes.{answered, told};
+ghost use Rattle.records.specs.Records.{Reads, Reads-back, Writes, malformed, put-count, put-front, rest-from, step-from, written-count, written-into};
 use super::numbers::u16_of;
 use super::numbers::u32_of;
 use super::numbers::u64_of;
@@ -15,7 +15,7 @@ use base::values::ValueWord;
 
 // Reads one record from the front of the bytes: its step and the bytes behind it, or the refusal and all the bytes.
 pub fn read_record(bytes: &[u8]) -> (Result<Step, Fault>, &[u8])
-    ensures is { λ r. ⌜ told-step (r .0) ≡ step-from (now (bytes .entry)) ⌝ }
+    ensures is { λ r. ⌜ answered (r .0) ≡ step-from (now (bytes .entry)) ⌝ }
     ensures rest { λ r. ⌜ now (r .1) ≡ rest-from (now (bytes .entry)) ⌝ }
     ensures law { λ r. ⌜ Reads (now (bytes .entry)) (r .0) (now (r .1)) ⌝ }
 {

@@ -1,8 +1,8 @@
 // Slips: the sixteen bytes that say how a case ended.
 ghost use mathlib.Core.Path.{_≡_};
 ghost use Rattle.std.specs.declared.result.Result.the-variants.{Ok};
-ghost use Rattle.base.specs.Causes.{told};
-ghost use Rattle.records.specs.Slips.{Lawful-slip, Made-by, Reads-slip, malformed, fields-bytes, slip-bytes, slip-by, slip-from, told-slip};
+ghost use Rattle.base.specs.Causes.{answered, told};
+ghost use Rattle.records.specs.Slips.{Lawful-slip, Made-by, Reads-slip, malformed, fields-bytes, slip-bytes, slip-by, slip-from};
 use super::numbers::u32_of;
 use base::faults::Cause;
 use base::faults::Fault;
@@ -53,7 +53,7 @@ fn join_fields(verdict: u8, case: u32, clauses: u32, goal: u32) -> [u8; 16]
 
 // Reads a slip from the first sixteen bytes.
 pub fn read_slip(bytes: &[u8]) -> Result<Slip, Fault>
-    ensures is { λ r. ⌜ told-slip r ≡ slip-from (now (bytes .entry)) ⌝ }
+    ensures is { λ r. ⌜ answered r ≡ slip-from (now (bytes .entry)) ⌝ }
     ensures law { λ r. ⌜ Reads-slip (now (bytes .entry)) r ⌝ }
 {
     match bytes {
@@ -69,7 +69,7 @@ pub fn read_slip(bytes: &[u8]) -> Result<Slip, Fault>
 
 // The slip with this verdict's number and these fields, if they are lawful.
 fn slip_with(verdict: u8, case: u32, clauses: u32, goal: u32) -> Result<Slip, Fault>
-    ensures is { λ r. ⌜ told-slip r ≡ slip-by verdict case clauses goal ⌝ }
+    ensures is { λ r. ⌜ answered r ≡ slip-by verdict case clauses goal ⌝ }
     ensures law { λ r. ⌜ Made-by verdict case clauses goal r ⌝ }
 {
     if clauses > MOST_CLAUSES {

@@ -10,12 +10,13 @@ use lib.ListN.{length}
 use Rattle.std.specs.declared.result.Result.{Result}
 use Rattle.std.specs.declared.result.Result.the-variants.{Ok, Err}
 use Rattle.std.specs.shelf.Lists.{All}
-use Rattle.std.proofs.shelf.Lists.{length-append, length-replicate}
+use Rattle.std.proofs.shelf.Lists.{length-replicate}
 use Rattle.std.proofs.shelf.Tests.{ltb-false, eqb-true, le-ltb, eq-eqb, not-false, not-from-true, cond-false}
 use Rattle.base.specs.declared.faults.Fault.{Fault}
 use Rattle.base.specs.Causes.{Refusal, told}
 use Rattle.words.specs.Words.{Spelt, words-from, start-of, end-of}
 use Rattle.words.specs.Due.{name-from}
+use Rattle.words.proofs.TableLaws.{padded-at}
 use Rattle.words.specs.Tables.{padded}
 use Rattle.circuit.specs.declared.tables.CircuitHead.{CircuitHead}
 use Rattle.circuit.specs.declared.tables.Gate.{Gate}
@@ -24,7 +25,8 @@ use Rattle.spelling.specs.FormulaGrammar.{Name, Number}
 use Rattle.spelling.specs.FormulaLaw.{Behind}
 use Rattle.spelling.specs.CircuitGrammar.{Aig, wires-of, Lawful-circuit, Numbers, more, numbers-of, input-literals, gate-literals, Ordered-from, Spells-circuit, spells}
 use Rattle.spelling.specs.CircuitLaw.{Accepts-circuit}
-use Rattle.spelling.proofs.CircuitReads.{err-ok, ok-same, then-cases, then-from, passes-false, Taken, Run, run-more, run-append, run-split, run-numbers, numbers-run, run-behind, Named, named, name-taken, taken-name, count-taken, taken-count, at-most-is, is-at-most, table-count-is, is-table-count}
+use Rattle.spelling.proofs.ProperWords.{ok-same, cond-ok}
+use Rattle.spelling.proofs.CircuitReads.{err-ok, then-cases, then-from, Taken, Run, run-more, run-append, run-split, run-numbers, numbers-run, run-behind, Named, named, name-taken, taken-name, count-taken, taken-count, at-most-is, is-at-most, table-count-is, is-table-count}
 use Rattle.spelling.proofs.CircuitParts.{inputs-run, run-inputs, outputs-all, run-outputs, gates-all, run-gates}
 
 abbrev aag : List ℕ
@@ -162,21 +164,13 @@ module _ (a : Aig) (lawful : Lawful-circuit a) (output-room gate-room size : ℕ
 -- the whole text
 circuit-read : (text : List ℕ) (p output-room gate-room : ℕ) (c : Circuit) → circuit-from text p output-room gate-room ≡ Ok c → (length text ≤ 16777216) × Circuit-read (words-from text p) output-room gate-room c
 circuit-read text p output-room gate-room c e =
-    let s = passes-false (ltb 16777216 (length text)) _ _ c e in
+    let s = cond-ok (ltb 16777216 (length text)) _ _ c e in
     (ltb-false 16777216 (length text) (s .0), parts-run (words-from text p) output-room gate-room (length text) c (s .1))
 
 circuit-is : (text : List ℕ) (p output-room gate-room : ℕ) (a : Aig) (rest : List Spelt) → length text ≤ 16777216 → Spells-circuit (words-from text p) a rest → Lawful-circuit a → length (a .outputs) ≤ output-room → length (a .gates) ≤ gate-room → (c : Circuit) × (circuit-from text p output-room gate-room ≡ Ok c)
 circuit-is text p output-room gate-room a rest short s lawful os gs =
     let r = parts-are a lawful output-room gate-room (length text) os gs s in
     (record { head = head-of a; outputs = a .outputs; gates = a .gates; place = r .0 }, cond-false (ltb 16777216 (length text)) _ _ (le-ltb 16777216 (length text) short) ∙ r .1)
-
-length-padded : {X : Type 0} (none : X) (xs : List X) (n : ℕ) → length xs ≤ n → length (padded none xs n) ≡ n
-length-padded none xs n h = simp (length-append, length-replicate) (omega arith)
-
-padded-at : {X : Type 0} (none : X) (xs ys : List X) (n : ℕ) → length xs ≤ n → ys ≡ padded none xs n → (length xs ≤ length ys) × (ys ≡ padded none xs (length ys))
-padded-at none xs ys n h e =
-    let l : length ys ≡ n = ap length e ∙ length-padded none xs n h in
-    (omega arith, e ∙ ap (padded none xs) (sym l))
 
 module _ (text : List ℕ) (p q output-room gate-room : ℕ) (os : List ℕ) (gs : List Gate) where
   accepted : (h : CircuitHead) (c : Circuit) → (length text ≤ 16777216) × Circuit-read (words-from text p) output-room gate-room c → Ok h ≡ head-read (Ok c) → os ≡ padded 0 (c .outputs) output-room → gs ≡ padded no-gate (c .gates) gate-room → q ≡ c .place → Accepts-circuit text p (Ok h) os gs q

@@ -13,7 +13,8 @@ use Rattle.circuit.specs.declared.tables.Gate.{Gate}
 use Rattle.circuit.specs.Reading.{exact-from, below-from, inputs-from, outputs-from, gate-from, gates-from}
 use Rattle.spelling.specs.FormulaGrammar.{Number}
 use Rattle.spelling.specs.CircuitGrammar.{Ordered-from, input-literals, gate-literals}
-use Rattle.spelling.proofs.CircuitReads.{ok-same, then-cases, then-from, Taken, Run, stops, goes, run-more, exact-taken, taken-exact, below-taken, taken-below}
+use Rattle.spelling.proofs.ProperWords.{ok-same}
+use Rattle.spelling.proofs.CircuitReads.{then-cases, then-from, Taken, Run, stops, goes, run-more, exact-taken, taken-exact, below-taken, taken-below}
 
 -- inputs
 pub inputs-run : (n i : ℕ) (ws : List Spelt) (q size : ℕ) (g : Unit {0} × List Spelt × ℕ) → inputs-from n i ws q size ≡ Ok g → Run ws q (input-literals i n) (g .1) (g .2)

@@ -8,25 +8,19 @@ use lib.Dec.{ltb, eqb}
 use Rattle.std.specs.declared.result.Result.{Result}
 use Rattle.std.specs.declared.result.Result.the-variants.{Ok, Err}
 use Rattle.std.proofs.shelf.Lists.{append-assoc}
-use Rattle.std.proofs.shelf.Tests.{true≢false, ltb-true, ltb-false, eqb-true, lt-ltb, le-ltb, eq-eqb, and-parts, and-from, cond-true, cond-false}
+use Rattle.std.proofs.shelf.Tests.{ltb-true, ltb-false, eqb-true, lt-ltb, le-ltb, eq-eqb, cond-true, cond-false}
 use Rattle.base.specs.Causes.{Refusal}
-use Rattle.words.specs.Words.{Spelt, letter, number, other, start-of, end-of}
-use Rattle.words.specs.Due.{and-then, same, number-in, name-in, number-from, name-from}
+use Rattle.words.specs.Words.{Spelt, number, start-of, end-of}
+use Rattle.words.specs.Due.{and-then, number-in, name-in, number-from, name-from}
 use Rattle.circuit.specs.Reading.{exact-from, below-from, count-from, at-most, table-count}
 use Rattle.spelling.specs.FormulaGrammar.{Name, Number}
 use Rattle.spelling.specs.FormulaLaw.{Behind}
 use Rattle.spelling.specs.CircuitGrammar.{Numbers, none, more}
+use Rattle.spelling.proofs.ProperWords.{ok-same, no-ok, then-ok, cond-ok, reads-number, is-number, reads-name, is-name}
 
 -- answers
 pub err-ok : {X : Type 0} (e : Refusal) (y : X) → Err e ≡ Ok y → ⊥
-err-ok e y h = let z : _≡_ {A = ℕ} 0 1 = cc in omega arith
-
-pub ok-same : {X E : Type 0} (x y : X) → _≡_ {A = Result X E} (Ok x) (Ok y) → x ≡ y
-ok-same x y e = cc
-
-pub then-parts : {X Y : Type 0} (r : Result X Refusal) (f : X → Result Y Refusal) (y : Y) → and-then r f ≡ Ok y → (x : X) × (r ≡ Ok x) × (f x ≡ Ok y)
-then-parts (Ok x) f y e = (x, refl, e)
-then-parts (Err e) f y h = absurd (err-ok e y h)
+err-ok e y h = no-ok y e h
 
 pub then-cases : {X Y C : Type 0} (r : Result X Refusal) (f : X → Result Y Refusal) (y : Y) → and-then r f ≡ Ok y → ((x : X) → r ≡ Ok x → f x ≡ Ok y → C) → C
 then-cases (Ok x) f y e go = go x refl e
@@ -34,10 +28,6 @@ then-cases (Err e) f y h go = absurd (err-ok e y h)
 
 pub then-from : {X Y : Type 0} (r : Result X Refusal) (f : X → Result Y Refusal) (x : X) (y : Result Y Refusal) → r ≡ Ok x → f x ≡ y → and-then r f ≡ y
 then-from r f x y e h = ap (λ s. and-then s f) e ∙ h
-
-pub passes-false : {X : Type 0} (b : Bool) (e : Refusal) (r : Result X Refusal) (y : X) → cond b (Err e) r ≡ Ok y → (b ≡ false) × (r ≡ Ok y)
-passes-false true e r y h = absurd (err-ok e y h)
-passes-false false e r y h = (refl, h)
 
 pub passes-true : {X : Type 0} (b : Bool) (e : Refusal) (r : Result X Refusal) (y : X) → cond b r (Err e) ≡ Ok y → (b ≡ true) × (r ≡ Ok y)
 passes-true true e r y h = (refl, h)
@@ -78,68 +68,32 @@ run-behind all (goes {w} {ws} h r) b =
     run-behind all r (b .0 ++ b .1 ∷ [], w, b .2 ∙ sym (append-assoc (b .0) (b .1 ∷ []) (w ∷ ws)), refl)
 
 -- a number
-number-is : (w : Spelt) (n : ℕ) → number-in w ≡ Ok n → Number w n
-number-is (letter bs p) n e = absurd (err-ok _ n e)
-number-is (number bs p m) n e = let s = passes-false (m .negative) _ _ n e in (s .0, ok-same _ _ (s .1))
-number-is (other bs p) n e = absurd (err-ok _ n e)
-
-is-number : (w : Spelt) (n : ℕ) → Number w n → number-in w ≡ Ok n
-is-number (letter bs p) n h = absurd h
-is-number (number bs p m) n h = cond-false (m .negative) _ _ (h .0) ∙ ap Ok (h .1)
-is-number (other bs p) n h = absurd h
-
 pub number-taken : (ws : List Spelt) (size : ℕ) (g : (ℕ × ℕ) × List Spelt × ℕ) → number-from ws size ≡ Ok g → Taken ws (g .0 .0) (g .1) (g .2)
 number-taken [] size g e = absurd (err-ok _ g e)
 number-taken (w ∷ ws) size g e =
-    let s = then-parts (number-in w) _ g e in
-    subst (λ (t : (ℕ × ℕ) × List Spelt × ℕ). Taken (w ∷ ws) (t .0 .0) (t .1) (t .2)) (ok-same _ g (s .2)) (taken (number-is w (s .0) (s .1)))
+    let s = then-ok (number-in w) _ g e in
+    subst (λ (t : (ℕ × ℕ) × List Spelt × ℕ). Taken (w ∷ ws) (t .0 .0) (t .1) (t .2)) (ok-same _ g (s .2)) (taken (is-number w (s .0) (s .1)))
 
 pub taken-number : (w : Spelt) (ws : List Spelt) (size n : ℕ) → Number w n → number-from (w ∷ ws) size ≡ Ok ((n, start-of w), ws, end-of w)
-taken-number w ws size n h = then-from (number-in w) _ n _ (is-number w n h) refl
+taken-number w ws size n h = then-from (number-in w) _ n _ (reads-number w n h) refl
 
 -- a name
-pub same-is : (xs ys : List ℕ) → same xs ys ≡ true → xs ≡ ys
-same-is [] [] e = refl
-same-is [] (y ∷ ys) e = let z : _≡_ {A = Bool} true false = cc in absurd (true≢false z)
-same-is (x ∷ xs) [] e = let z : _≡_ {A = Bool} true false = cc in absurd (true≢false z)
-same-is (x ∷ xs) (y ∷ ys) e =
-    let s = and-parts (eqb x y) (same xs ys) e in
-    let a = eqb-true x y (s .0) in
-    let b = same-is xs ys (s .1) in cc
-
-pub is-same : (xs ys : List ℕ) → xs ≡ ys → same xs ys ≡ true
-is-same xs ys e = subst (λ l. same xs l ≡ true) e (itself xs)
-  where
-    itself : (l : List ℕ) → same l l ≡ true
-    itself [] = refl
-    itself (x ∷ l) = and-from (eqb x x) (same l l) (eq-eqb x x refl) (itself l)
-
-name-is : (name : List ℕ) (w : Spelt) (u : Unit {0}) → name-in name w ≡ Ok u → Name w name
-name-is name (letter bs p) u e = same-is bs name (passes-true (same bs name) _ _ u e .0)
-name-is name (number bs p m) u e = absurd (err-ok _ u e)
-name-is name (other bs p) u e = absurd (err-ok _ u e)
-
-is-name : (name : List ℕ) (w : Spelt) → Name w name → name-in name w ≡ Ok tt
-is-name name (letter bs p) h = cond-true (same bs name) _ _ (is-same bs name h)
-is-name name (number bs p m) h = absurd h
-is-name name (other bs p) h = absurd h
-
 pub data Named : List ℕ → List Spelt → List Spelt → ℕ → Type 0 where
   named : {name : List ℕ} {w : Spelt} {ws : List Spelt} → Name w name → Named name (w ∷ ws) ws (end-of w)
 
 pub name-taken : (name : List ℕ) (ws : List Spelt) (size : ℕ) (g : Unit {0} × List Spelt × ℕ) → name-from name ws size ≡ Ok g → Named name ws (g .1) (g .2)
 name-taken name [] size g e = absurd (err-ok _ g e)
 name-taken name (w ∷ ws) size g e =
-    let s = then-parts (name-in name w) _ g e in
-    subst (λ (t : Unit {0} × List Spelt × ℕ). Named name (w ∷ ws) (t .1) (t .2)) (ok-same _ g (s .2)) (named (name-is name w (s .0) (s .1)))
+    let s = then-ok (name-in name w) _ g e in
+    subst (λ (t : Unit {0} × List Spelt × ℕ). Named name (w ∷ ws) (t .1) (t .2)) (ok-same _ g (s .2)) (named (is-name name w (s .1)))
 
 pub taken-name : (name : List ℕ) (w : Spelt) (ws : List Spelt) (size : ℕ) → Name w name → name-from name (w ∷ ws) size ≡ Ok (tt, ws, end-of w)
-taken-name name w ws size h = then-from (name-in name w) _ tt _ (is-name name w h) refl
+taken-name name w ws size h = then-from (name-in name w) _ tt _ (reads-name name w h) refl
 
 -- a literal that has to be this one
 pub exact-taken : (due : ℕ) (ws : List Spelt) (size : ℕ) (g : Unit {0} × List Spelt × ℕ) → exact-from due ws size ≡ Ok g → Taken ws due (g .1) (g .2)
 exact-taken due ws size g e =
-    let s = then-parts (number-from ws size) _ g e in
+    let s = then-ok (number-from ws size) _ g e in
     let t = passes-true (eqb (s .0 .0 .0) due) _ _ g (s .2) in
     let same-g = ok-same _ g (t .1) in
     subst (λ (n : ℕ). Taken ws n (g .1) (g .2)) (eqb-true (s .0 .0 .0) due (t .0))
@@ -151,7 +105,7 @@ taken-exact w ws size n h = then-from (number-from (w ∷ ws) size) _ _ _ (taken
 -- a literal that has to be below a bound
 pub below-taken : (bound : ℕ) (ws : List Spelt) (size : ℕ) (g : ℕ × List Spelt × ℕ) → below-from bound ws size ≡ Ok g → Taken ws (g .0) (g .1) (g .2) × (g .0 < bound)
 below-taken bound ws size g e =
-    let s = then-parts (number-from ws size) _ g e in
+    let s = then-ok (number-from ws size) _ g e in
     let t = passes-true (ltb (s .0 .0 .0) bound) _ _ g (s .2) in
     subst (λ (x : ℕ × List Spelt × ℕ). Taken ws (x .0) (x .1) (x .2) × (x .0 < bound)) (ok-same _ g (t .1)) (number-taken ws size (s .0) (s .1), ltb-true (s .0 .0 .0) bound (t .0))
 
@@ -161,8 +115,8 @@ taken-below bound w ws size n h l = then-from (number-from (w ∷ ws) size) _ _ 
 -- a count
 pub count-taken : (rule : ℕ → ℕ → Result ℕ Refusal) (P : ℕ → Type 0) → ((n p k : ℕ) → rule n p ≡ Ok k → (n ≡ k) × P k) → (ws : List Spelt) (size : ℕ) (g : ℕ × List Spelt × ℕ) → count-from rule ws size ≡ Ok g → Taken ws (g .0) (g .1) (g .2) × P (g .0)
 count-taken rule P told ws size g e =
-    let s = then-parts (number-from ws size) _ g e in
-    let t = then-parts (rule (s .0 .0 .0) (s .0 .0 .1)) _ g (s .2) in
+    let s = then-ok (number-from ws size) _ g e in
+    let t = then-ok (rule (s .0 .0 .0) (s .0 .0 .1)) _ g (s .2) in
     let u = told (s .0 .0 .0) (s .0 .0 .1) (t .0) (t .1) in
     subst (λ (x : ℕ × List Spelt × ℕ). Taken ws (x .0) (x .1) (x .2) × P (x .0)) (ok-same _ g (t .2))
     (subst (λ (n : ℕ). Taken ws n (s .0 .1) (s .0 .2)) (u .0) (number-taken ws size (s .0) (s .1)), u .1)
@@ -173,7 +127,7 @@ taken-count rule w ws size n h e =
 
 pub at-most-is : (bound n p k : ℕ) → at-most bound n p ≡ Ok k → (n ≡ k) × (k ≤ bound)
 at-most-is bound n p k e =
-    let s = passes-false (ltb bound n) _ _ k e in
+    let s = cond-ok (ltb bound n) _ _ k e in
     let same-k = ok-same n k (s .1) in
     (same-k, omega (arith, ltb-false bound n (s .0)))
 
@@ -182,8 +136,8 @@ is-at-most bound n p h = cond-false (ltb bound n) _ _ (le-ltb bound n h)
 
 pub table-count-is : (room : ℕ) (breaks : ℕ → Bool) (n p k : ℕ) → table-count room breaks n p ≡ Ok k → (n ≡ k) × ((k ≤ room) × (breaks k ≡ false))
 table-count-is room breaks n p k e =
-    let s = passes-false (ltb room n) _ _ k e in
-    let t = passes-false (breaks n) _ _ k (s .1) in
+    let s = cond-ok (ltb room n) _ _ k e in
+    let t = cond-ok (breaks n) _ _ k (s .1) in
     let same-k = ok-same n k (t .1) in
     (same-k, (omega (arith, ltb-false room n (s .0)), subst (λ (x : ℕ). breaks x ≡ false) same-k (t .0)))
 

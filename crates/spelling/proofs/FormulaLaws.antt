@@ -10,12 +10,13 @@ use lib.ListN.{length, getD, replicate}
 use Rattle.std.specs.declared.result.Result.{Result}
 use Rattle.std.specs.declared.result.Result.the-variants.{Ok, Err}
 use Rattle.std.specs.shelf.Lists.{All}
-use Rattle.std.proofs.shelf.Lists.{length-append, length-replicate}
+use Rattle.std.proofs.shelf.Lists.{length-replicate}
 use Rattle.std.proofs.shelf.Tests.{cases-bool, cond-both, cond-false, le-ltb, ltb-false, ltb-true, ne-eqb, not-from-false, or-from, or-left}
 use Rattle.base.specs.declared.faults.Fault.{Fault}
 use Rattle.base.specs.Causes.{Refusal, told}
 use Rattle.words.specs.Words.{Spelt, words-from, end-of}
 use Rattle.words.specs.Due.{literal-in}
+use Rattle.words.proofs.TableLaws.{padded-at}
 use Rattle.words.specs.Tables.{padded}
 use Rattle.formula.specs.declared.tables.Head.{Head}
 use Rattle.formula.specs.declared.tables.Literal.{Literal}
@@ -197,14 +198,6 @@ parts-complete {dqbf = dqbf} variable-room clause-room literal-room size (spells
     )
 
 -- the whole text
-length-padded : {X : Type 0} (none : X) (xs : List X) (n : ℕ) → length xs ≤ n → length (padded none xs n) ≡ n
-length-padded none xs n h = simp (length-append, length-replicate) (omega arith)
-
-padded-at : {X : Type 0} (none : X) (xs ys : List X) (n : ℕ) → length xs ≤ n → ys ≡ padded none xs n → (length xs ≤ length ys) × (ys ≡ padded none xs (length ys))
-padded-at none xs ys n h e =
-    let l : length ys ≡ n = ap length e ∙ length-padded none xs n h in
-    (omega arith, e ∙ ap (padded none xs) (sym l))
-
 length-spans : (at : ℕ) (cs : List (List Literal)) → length (spans-from at cs) ≡ length cs
 length-spans at [] = refl
 length-spans at (c ∷ cs) = ap suc (length-spans (at + length c) cs)

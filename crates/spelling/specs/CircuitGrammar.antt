@@ -1,5 +1,4 @@
 -- Circuits of and-gates, and the grammar of circuit texts as a relation between words and circuits.
-use mathlib.Core.Path.{_≡_}
 use mathlib.Core.List.{List, [], _∷_, _++_}
 use Prim.Native.Nat.{ℕ, zero, suc, _+_, _*_, _≤_, _<_}
 use lib.Chars.{codes}

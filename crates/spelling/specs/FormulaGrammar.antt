@@ -2,7 +2,7 @@
 use mathlib.Core.Path.{_≡_}
 use mathlib.Core.Bool.{Bool, true, false}
 use mathlib.Core.List.{List, [], _∷_, _++_, map}
-use Prim.Native.Nat.{ℕ, zero, suc, _+_, _-_, _≤_, _<_, _^_}
+use Prim.Native.Nat.{ℕ, _-_, _<_, _^_}
 use lib.Chars.{codes}
 use lib.Dec.{leb}
 use mathlib.Core.Bool.{_&&_}
@@ -10,10 +10,9 @@ use lib.ListN.{length, getD}
 use Rattle.std.specs.shelf.Lists.{All}
 use Rattle.base.specs.declared.values.ValueWord.{ValueWord}
 use Rattle.base.specs.Words.{has-bit, first-word}
-use Rattle.words.specs.declared.forms.Numeral.{Numeral}
 use Rattle.words.specs.Words.{Spelt, letter, number, other}
 use Rattle.formula.specs.declared.tables.Literal.{Literal}
-use Rattle.spelling.specs.Dqbf.{Declaration, universal, existential, Dqbf, variable-of, universals-of, member, Distinct}
+use Rattle.spelling.specs.Dqbf.{Declaration, universal, existential, Dqbf, universals-of, member, Distinct}
 
 -- the word is this name
 abbrev pub Name : Spelt → List ℕ → Type 0

@@ -3,7 +3,7 @@ use mathlib.Core.Path.{_≡_, refl, sym, ap, _∙_}
 use mathlib.Core.List.{List, [], _∷_, _++_, append-nil}
 use Prim.Native.Nat.{ℕ, _+_, _-_, _≤_}
 use native.Mathlib.Omega.{arith}
-use lib.ListN.{length, take, drop, set, replicate}
+use lib.ListN.{length, take, drop, set, replicate, length-append, length-replicate}
 use lib.Seq.{take-append-add, drop-append-seam}
 use borrow.Rule.Slice.PartMut.{putMid}
 use Rattle.std.proofs.shelf.Lists.{drop-all, drop-drop, length-take-le, take-rest, length-drop, drop-set-lt, take-append-drop, drop-replicate}
@@ -40,3 +40,12 @@ pub padded-is : {X : Type 0} (none : X) (n room : ℕ) (xs ys : List X) → ys �
 padded-is none n room xs ys z h l e =
     sym (take-append-drop n xs)
     ∙ ap (λ t. take n xs ++ t) (e ∙ ap (drop n) z ∙ drop-replicate n room none ∙ ap (λ k. replicate (room - k) none) (sym (length-take-le n xs (omega arith))))
+
+-- how long a padded table is, and the same table by its own length
+pub length-padded : {X : Type 0} (none : X) (xs : List X) (n : ℕ) → length xs ≤ n → length (padded none xs n) ≡ n
+length-padded none xs n h = simp (length-append, length-replicate) (omega arith)
+
+pub padded-at : {X : Type 0} (none : X) (xs ys : List X) (n : ℕ) → length xs ≤ n → ys ≡ padded none xs n → (length xs ≤ length ys) × (ys ≡ padded none xs (length ys))
+padded-at none xs ys n h e =
+    let l : length ys ≡ n = ap length e ∙ length-padded none xs n h in
+    (omega arith, e ∙ ap (padded none xs) (sym l))

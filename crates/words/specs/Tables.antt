@@ -2,11 +2,7 @@
 use mathlib.Core.Path.{_≡_}
 use mathlib.Core.List.{List, _++_}
 use Prim.Native.Nat.{ℕ, _-_}
-use lib.ListN.{length, take, drop, replicate}
-use Rattle.std.specs.declared.result.Result.{Result}
-use Rattle.std.specs.declared.result.Result.the-variants.{Ok, Err}
-use Rattle.base.specs.declared.faults.Fault.{Fault}
-use Rattle.base.specs.Causes.{Refusal, told}
+use lib.ListN.{length, drop, replicate}
 
 -- a table of n entries that holds these, and zeros behind them
 abbrev pub padded : {X : Type 0} → X → List X → ℕ → List X
@@ -15,8 +11,3 @@ padded none xs n = xs ++ replicate (n - length xs) none
 -- what stands behind the first n entries is as it was
 abbrev pub Kept : {X : Type 0} → ℕ → List X → List X → Type 0
 Kept n was is = drop n is ≡ drop n was
-
--- an answer as it is told
-abbrev pub answer : {X : Type 0} → Result X Fault → Result X Refusal
-answer (Ok x) = Ok x
-answer (Err e) = Err (told e)

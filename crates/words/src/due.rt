@@ -1,6 +1,5 @@
 // The words that a reader asks for: a number, a literal, a name. Each is read or refused.
 ghost use mathlib.Core.Path.{_≡_};
-ghost use Prim.Native.Nat.{ℕ, _<_, _≤_};
 ghost use lib.ListN.{length};
 ghost use Rattle.std.specs.Vec.{made};
 ghost use Rattle.base.specs.Causes.{told};

@@ -1,6 +1,6 @@
 // A word: a longest run of bytes that are no blanks, handed out as a stretch of the caller's text.
 ghost use mathlib.Core.Path.{_≡_};
-ghost use Prim.Native.Nat.{ℕ, _+_, _-_, _<_, _≤_};
+ghost use Prim.Native.Nat.{_+_, _<_, _≤_};
 ghost use lib.ListN.{length, drop};
 ghost use Rattle.std.specs.Options.{mapped};
 ghost use Rattle.words.specs.Words.{blanks, inked, classed, words-from, listed, Onward};

@@ -6,7 +6,8 @@ ghost use lib.Dec.{eqb};
 ghost use lib.ListN.{length, getD};
 ghost use Rattle.std.specs.Vec.{made};
 ghost use Rattle.words.specs.Words.{words-from};
-ghost use Rattle.words.specs.Tables.{Kept, answer};
+ghost use Rattle.base.specs.Causes.{answered};
+ghost use Rattle.words.specs.Tables.{Kept};
 ghost use Rattle.formula.specs.Clauses.{no-clause, literal-of, judge-literal, clause-from, clauses-from, told-clause, told-clauses};
 use super::super::tables::Clause;
 use super::super::tables::Kind;
@@ -34,7 +35,7 @@ fn check_literal(
     at: usize,
 ) -> Result<Literal, Fault>
     requires { ⌜ known ≤ length (now vars) ⌝ ∗ ⌜ known < length (now marks) ⌝ ∗ ⌜ 0 < number .value ⌝ }
-    ensures is { λ r. ⌜ answer r ≡ judge-literal known (now (vars .entry)) count (eqb (getD (now (marks .entry)) (number .value) 0) stamp) room number at ⌝ }
+    ensures is { λ r. ⌜ answered r ≡ judge-literal known (now (vars .entry)) count (eqb (getD (now (marks .entry)) (number .value) 0) stamp) room number at ⌝ }
     ensures within { λ r. ⌜ made r (λ l. (l ≡ literal-of number) × (number .value ≤ known) × (count < room) × (count < 1024)) ⌝ }
 {
     if count >= 1_024 {

@@ -1,11 +1,11 @@
 // Groups of declarations: `a` universals, `e` existentials, `d` an existential with its dependencies.
 ghost use mathlib.Core.Path.{_≡_};
-ghost use Prim.Native.Nat.{ℕ, _≤_, _<_};
+ghost use Prim.Native.Nat.{_≤_, _<_};
 ghost use lib.ListN.{length};
 ghost use Rattle.std.specs.Vec.{made};
 ghost use Rattle.words.specs.Words.{words-from};
 ghost use Rattle.words.specs.Due.{Further};
-ghost use Rattle.words.specs.Tables.{answer};
+ghost use Rattle.base.specs.Causes.{answered};
 ghost use Rattle.formula.specs.Groups.{fresh, declared, told-declared, add-universal, add-existential, add-listed, add-dependency, group-in, inside, went, followed, groups-from, Begins, told-groups, nothing-declared, Where};
 use super::super::tables::Kind;
 use super::super::tables::Variable;
@@ -52,7 +52,7 @@ fn group_of(word: &[u8]) -> Option<Group>
 // A variable that is declared has to be one of the formula's, and not declared before.
 fn check_fresh(vars: &[Variable], known: u32, v: u32, at: usize) -> Result<(), Fault>
     requires { ⌜ known ≤ length (now vars) ⌝ }
-    ensures is { λ r. ⌜ answer r ≡ fresh known (now (vars .entry)) v at ⌝ }
+    ensures is { λ r. ⌜ answered r ≡ fresh known (now (vars .entry)) v at ⌝ }
     ensures within { λ r. ⌜ made r (λ _. (0 < v) × (v ≤ known)) ⌝ }
 {
     if v == 0 || v > known {
