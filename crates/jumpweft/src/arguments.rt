@@ -5,17 +5,17 @@ use std::error::AnyError;
 
 // The words of the command line, the program's name first.
 #[derive(Drop)]
-pub struct Arguments {
+pub(crate) struct Arguments {
     words: Vec<String>,
 }
 
 impl Arguments {
-    pub fn read(rt: &LibcRuntime) -> Result<Arguments, AnyError> {
+    pub(crate) fn read(rt: &LibcRuntime) -> Result<Arguments, AnyError> {
         let words = env::args(rt)?.collect(rt.alloc())?;
         Ok(Arguments { words })
     }
 
-    pub fn command(&self) -> &str {
+    pub(crate) fn command(&self) -> &str {
         match self.words.as_slice() {
             [_, command, ..] => command.as_str(),
             _ => "",
@@ -31,7 +31,7 @@ impl Arguments {
     }
 
     // Whether an option stands last, without a value.
-    pub fn value_missing(&self) -> bool {
+    pub(crate) fn value_missing(&self) -> bool {
         let mut value_due = false;
         for word in self.rest() {
             value_due = !value_due && word.as_str().starts_with("--");
@@ -40,7 +40,7 @@ impl Arguments {
     }
 
     // Whether there is an option at all.
-    pub fn has_options(&self) -> bool {
+    pub(crate) fn has_options(&self) -> bool {
         for word in self.rest() {
             if word.as_str().starts_with("--") {
                 return true;
@@ -50,7 +50,7 @@ impl Arguments {
     }
 
     // Whether each option is one of these.
-    pub fn only_options(&self, options: &[&str]) -> bool {
+    pub(crate) fn only_options(&self, options: &[&str]) -> bool {
         let mut value_due = false;
         for word in self.rest() {
             value_due = !value_due && word.as_str().starts_with("--");
@@ -62,7 +62,7 @@ impl Arguments {
     }
 
     // The file that the command is run on, where there is exactly one.
-    pub fn only_file(&self) -> Option<&str> {
+    pub(crate) fn only_file(&self) -> Option<&str> {
         let mut file = None;
         let mut value_due = false;
         for word in self.rest() {
@@ -80,7 +80,7 @@ impl Arguments {
     }
 
     // The number that an option gives, the last where it stands more than once, or else the default.
-    pub fn number(&self, option: &str, default: usize) -> Result<usize, AnyError> {
+    pub(crate) fn number(&self, option: &str, default: usize) -> Result<usize, AnyError> {
         let mut number = default;
         let mut due = None;
         for word in self.rest() {

@@ -20,7 +20,7 @@ struct Tables {
     gates: Vec<Gate>,
 }
 
-pub fn run(rt: &LibcRuntime, arguments: &Arguments) -> Result<bool, AnyError> {
+pub(crate) fn run(rt: &LibcRuntime, arguments: &Arguments) -> Result<bool, AnyError> {
     let Some(input) = Input::read(rt, arguments, &["--at", "--outputs", "--gates"])? else {
         return Ok(false);
     };

@@ -22,7 +22,7 @@ struct Tables {
     literals: Vec<Literal>,
 }
 
-pub fn run(rt: &LibcRuntime, arguments: &Arguments) -> Result<bool, AnyError> {
+pub(crate) fn run(rt: &LibcRuntime, arguments: &Arguments) -> Result<bool, AnyError> {
     let Some(input) = Input::read(
         rt,
         arguments,

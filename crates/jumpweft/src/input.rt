@@ -7,7 +7,7 @@ use words::place::Place;
 
 // A file's bytes, and the place from which they are read.
 #[derive(Drop)]
-pub struct Input {
+pub(crate) struct Input {
     pub text: Vec<u8>,
     pub start: Place,
 }
@@ -15,7 +15,7 @@ pub struct Input {
 impl Input {
     // The file and the place that the arguments name, where each option is one of these; none where the file cannot be
     // read, and standard error then says why.
-    pub fn read(
+    pub(crate) fn read(
         rt: &LibcRuntime,
         arguments: &Arguments,
         options: &[&str],
@@ -35,7 +35,7 @@ impl Input {
 }
 
 // The bytes of the one file that the arguments name, where the command has no options; none where it cannot be read.
-pub fn read_plain(rt: &LibcRuntime, arguments: &Arguments) -> Result<Option<Vec<u8>>, AnyError> {
+pub(crate) fn read_plain(rt: &LibcRuntime, arguments: &Arguments) -> Result<Option<Vec<u8>>, AnyError> {
     if arguments.has_options() {
         return Err("this command has no options".into());
     }

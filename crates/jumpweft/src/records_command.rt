@@ -10,7 +10,7 @@ use std::io;
 use std::io::BufWriter;
 use std::io::Write;
 
-pub fn run(rt: &LibcRuntime, arguments: &Arguments) -> Result<bool, AnyError> {
+pub(crate) fn run(rt: &LibcRuntime, arguments: &Arguments) -> Result<bool, AnyError> {
     let Some(bytes) = read_plain(rt, arguments)? else {
         return Ok(false);
     };

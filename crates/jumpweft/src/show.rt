@@ -6,22 +6,22 @@ use std::io::Write;
 use words::place::Place;
 
 // The first n entries, or all where there are fewer.
-pub fn front<T>(entries: &[T], n: u32) -> &[T] {
+pub(crate) fn front<T>(entries: &[T], n: u32) -> &[T] {
     &entries[..(n as usize).min(entries.len())]
 }
 
 // The entries behind the first n.
-pub fn behind<T>(entries: &[T], n: u32) -> &[T] {
+pub(crate) fn behind<T>(entries: &[T], n: u32) -> &[T] {
     &entries[(n as usize).min(entries.len())..]
 }
 
-pub fn accepted<W: Write>(out: &mut W, place: Place) -> Result<(), io::Error> {
+pub(crate) fn accepted<W: Write>(out: &mut W, place: Place) -> Result<(), io::Error> {
     let at = place.at;
     writeln!(out, "accepted, place {at}")
 }
 
 // Prints a refusal: its numbers, and in brackets what is wrong.
-pub fn refusal(rt: &LibcRuntime, fault: Fault) -> Result<(), io::Error> {
+pub(crate) fn refusal(rt: &LibcRuntime, fault: Fault) -> Result<(), io::Error> {
     let cause = fault.cause.number();
     let place = fault.place;
     let layer = fault.layer.number();

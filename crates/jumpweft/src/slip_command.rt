@@ -7,7 +7,7 @@ use records::slip::read_slip;
 use std::error::AnyError;
 use std::io;
 
-pub fn run(rt: &LibcRuntime, arguments: &Arguments) -> Result<bool, AnyError> {
+pub(crate) fn run(rt: &LibcRuntime, arguments: &Arguments) -> Result<bool, AnyError> {
     let Some(bytes) = read_plain(rt, arguments)? else {
         return Ok(false);
     };
