@@ -35,7 +35,10 @@ impl Input {
 }
 
 // The bytes of the one file that the arguments name, where the command has no options; none where it cannot be read.
-pub(crate) fn read_plain(rt: &LibcRuntime, arguments: &Arguments) -> Result<Option<Vec<u8>>, AnyError> {
+pub(crate) fn read_plain(
+    rt: &LibcRuntime,
+    arguments: &Arguments,
+) -> Result<Option<Vec<u8>>, AnyError> {
     if arguments.has_options() {
         return Err("this command has no options".into());
     }

@@ -201,7 +201,7 @@ impl<S: Side, F: Shelf> Examiner<S, F> {
         Ok(0)
     }
 
-    fn step(&mut self, step: Step) -> Result<u32, Fault>
+    pub(crate) fn step(&mut self, step: Step) -> Result<u32, Fault>
         ensures { λ r. ⌜ Steps S·Side F·Shelf (step-result (rules-of S·Side F·Shelf (now (self .entry))) (state-of S·Side F·Shelf (now (self .entry))) step) r (now (self .entry)) (now (self .exit)) ⌝ }
     {
         match step {
