@@ -35,20 +35,20 @@ use Rattle.engine.specs.Plain.{Rules, State, start, on-ok, on-case, here, judg
 use Rattle.engine.specs.Runs.{Call, opens, steps, takes, closes, opened-state, stepped-state, next, run, rules-with, Proved, Sound}
 use Rattle.engine.proofs.RowLaws.{err-ok, same-ok}
 
-none-some : (k : ℕ) → _≡_ {A = Option ℕ} None (Some k) → ⊥
+pub none-some : (k : ℕ) → _≡_ {A = Option ℕ} None (Some k) → ⊥
 none-some k e = let z : _≡_ {A = ℕ} 0 1 = cc in omega arith
 
 -- ways through the plain case's tests
-case-both : {X : Type 0} (P : X → Type 0) (o : Option ℕ) (x : X) (f : ℕ → X) → (o ≡ None → P x) → ((k : ℕ) → o ≡ Some k → P (f k)) → P (on-case o x f)
+pub case-both : {X : Type 0} (P : X → Type 0) (o : Option ℕ) (x : X) (f : ℕ → X) → (o ≡ None → P x) → ((k : ℕ) → o ≡ Some k → P (f k)) → P (on-case o x f)
 case-both P None x f p q = p refl
 case-both P (Some k) x f p q = q k refl
 
 module _ {X Y : Type 0} (P : Result Y Refusal → Type 0) (errs : (e : Refusal) → P (Err e)) where
-  ok-both : (x : Result X Refusal) (f : X → Result Y Refusal) → ((v : X) → x ≡ Ok v → P (f v)) → P (on-ok x f)
+  pub ok-both : (x : Result X Refusal) (f : X → Result Y Refusal) → ((v : X) → x ≡ Ok v → P (f v)) → P (on-ok x f)
   ok-both (Ok v) f h = h v refl
   ok-both (Err e) f h = errs e
 
-  judged-both : (s : State) (x : Result X ℕ) (f : X → Result Y Refusal) → ((v : X) → x ≡ Ok v → P (f v)) → P (on-ok (judged s x) f)
+  pub judged-both : (s : State) (x : Result X ℕ) (f : X → Result Y Refusal) → ((v : X) → x ≡ Ok v → P (f v)) → P (on-ok (judged s x) f)
   judged-both s (Ok v) f h = h v refl
   judged-both s (Err c) f h = errs (here s c)
 
@@ -58,16 +58,16 @@ filed-by true t c d e = absurd (err-ok d 19 e)
 filed-by false true c d e = absurd (err-ok d 20 e)
 filed-by false false c d e = (refl, same-ok c d e)
 
-filed-parts : (j : Joined Entry) (d : List Entry) → filed j ≡ Ok d → (j .clash ≡ false) × (j .clause ≡ d)
+pub filed-parts : (j : Joined Entry) (d : List Entry) → filed j ≡ Ok d → (j .clash ≡ false) × (j .clause ≡ d)
 filed-parts j d e = filed-by (j .clash) (ltb 1024 (length (j .clause))) (j .clause) d e
 
-none-settled : (n i : ℕ) → getD (replicate n false) i false ≡ false
+pub none-settled : (n i : ℕ) → getD (replicate n false) i false ≡ false
 none-settled zero i = refl
 none-settled (suc n) zero = refl
 none-settled (suc n) (suc i) = none-settled n i
 
 -- where no goal from g on is the lowest open one, all are settled
-lowest-all : (st : State) (n g : ℕ) → 1 ≤ g → lowest-open st g n ≡ 0 → (k : ℕ) → g ≤ k → k < g + n → is-settled st k ≡ true
+pub lowest-all : (st : State) (n g : ℕ) → 1 ≤ g → lowest-open st g n ≡ 0 → (k : ℕ) → g ≤ k → k < g + n → is-settled st k ≡ true
 lowest-all st zero g pos e k l h = absurd (omega arith)
 lowest-all st (suc n) g pos e k l h =
     ⊎-elim
@@ -83,7 +83,7 @@ stray-never : (v : Verdict) (n m c : ℕ) → slip.Stray n ≡ verdict-slip v m 
 stray-never verdict.True n m c e = let z : _≡_ {A = ℕ} 0 1 = cc in omega arith
 stray-never verdict.False n m c e = let z : _≡_ {A = ℕ} 0 1 = cc in omega arith
 
-unproved-never : (v : Verdict) (n k g m c : ℕ) → slip.Unproved n k g ≡ verdict-slip v m c → ⊥
+pub unproved-never : (v : Verdict) (n k g m c : ℕ) → slip.Unproved n k g ≡ verdict-slip v m c → ⊥
 unproved-never verdict.True n k g m c e = let z : _≡_ {A = ℕ} 0 1 = cc in omega arith
 unproved-never verdict.False n k g m c e = let z : _≡_ {A = ℕ} 0 1 = cc in omega arith
 

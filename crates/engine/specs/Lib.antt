@@ -4,3 +4,4 @@ pub mod Plain
 pub mod Means
 pub mod Runs
 pub mod Called
+pub mod Histories
