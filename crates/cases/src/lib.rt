@@ -1,4 +1,6 @@
 // Cases: texts with what their reading has to answer, computed from the definitions and run on the readers.
+#![tactic(auto)]
+
 ghost use Rattle.std.specs.Prelude.{◌≡◌, true};
 ghost use Rattle.cases.specs.Cases.{all, shows, table};
 

@@ -1,3 +1,5 @@
 // Circuits: their tables and the reader of circuit texts.
+#![tactic(auto)]
+
 pub mod read;
 pub mod tables;

@@ -1,4 +1,6 @@
 // Expansion of the universals: the clauses of a formula under words of values.
+#![tactic(auto)]
+
 ghost use Rattle.std.specs.Prelude.{◌≡◌, ◌≤◌, length};
 ghost use Rattle.clauses.specs.Clauses.{over};
 ghost use Rattle.clauses.specs.Laid.{Laid};

@@ -1,3 +1,5 @@
 // Formulas: their tables and the reader of formula texts.
+#![tactic(auto)]
+
 pub mod read;
 pub mod tables;

@@ -1,6 +1,8 @@
 // The program: reads its arguments, runs one command, and prints what was done.
 // Status 0: a text or a file of records was accepted, a session's texts were, or the verdict is True or False. Status 1:
 // refused, Unproved or Stray, bad usage, or a file that cannot be read.
+#![tactic(auto)]
+
 mod arguments;
 mod case_command;
 mod circuit_command;

@@ -1,4 +1,6 @@
 // The reach of a wire: the inputs that it reads, by any path of gates.
+#![tactic(auto)]
+
 ghost use Rattle.std.specs.Prelude.{◌≡◌, length};
 ghost use Rattle.reach.specs.Reach.{wire_reach, fills, reaches_table, Paths};
 

@@ -1,4 +1,6 @@
 // The bytes that go between a solver, the checker and the patch writer: records of proof steps, and slips.
+#![tactic(auto)]
+
 mod numbers;
 pub mod record;
 pub mod slip;

@@ -1,2 +1,4 @@
 // Shelves: where an examiner keeps its clauses.
+#![tactic(auto)]
+
 pub mod flat;

@@ -1,4 +1,6 @@
 // The two sides: truth by circuits, falsity by expansion.
+#![tactic(auto)]
+
 pub mod agreement;
 pub mod falsity;
 pub mod truth;

@@ -1,4 +1,6 @@
 // The readers with the law that they obey: a text is accepted exactly if it spells a lawful formula or circuit.
+#![tactic(auto)]
+
 ghost use Rattle.formula.specs.Reading.{formula_from, Agrees as AgreesFormula};
 ghost use Rattle.circuit.specs.Reading.{circuit_from, Agrees as AgreesCircuit};
 ghost use Rattle.spelling.specs.CircuitLaw.{AcceptsCircuit};
