@@ -4,7 +4,7 @@ use Rattle.expansion.specs.Instances.{instance}
 use Rattle.expansion.proofs.ClauseLoops.{instance_more, instance_skip, instance_none}
 use Rattle.expansion.proofs.RowWrites.{Written, written_more, written_all}
 use Rattle.expansion.proofs.write_existentials.Goals as goal
-use Rattle.expansion.proofs.write_existentials.Goals.{in-Existential, in-default}
+use Rattle.expansion.proofs.write_existentials.Goals.{in-Existential, in_default}
 
 pub bounds-row-count : goal.bounds-row-count
 bounds-row-count c =
@@ -23,8 +23,8 @@ loop-literal-preserved c =
       | in-Existential w ↦
           let more = instance_more vs c.args.values ls i c.loop-literal-test.true c.variable-variable.ensures w.in-Existential.is ∙ ap (λ (e : Entry). e ∷ rest) (sym w.annotate.ensures) in
           simp (w.row-is, w.count-is) (written_more c.loop-literal.row c.args.row.now rest all w.annotate.result c.loop-literal.count (subst P more c.loop-literal.invariant))
-      | in-default w ↦
-          let skip = instance_skip vs c.args.values ls i c.loop-literal-test.true c.variable-variable.ensures w.in-default.not-Existential in
+      | in_default w ↦
+          let skip = instance_skip vs c.args.values ls i c.loop-literal-test.true c.variable-variable.ensures w.in_default.not-Existential in
           simp (w.row-is, w.count-is) (subst P skip c.loop-literal.invariant)
     ]
 

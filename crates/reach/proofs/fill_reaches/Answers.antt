@@ -23,8 +23,8 @@ loop-g-preserved c =
     let same = get_or-take c.args.head.gates gates g no_gate (omega arith) in
     let union : c.union.result ≡ gate_union c.args.head.inputs xs (get_or gs g no_gate) =
     c.union.ensures
-    ∙ ap (λ a. union_word a c.wire-reach-right.result) c.wire-reach-left.ensures
-    ∙ ap (union_word (wire_reach c.args.head.inputs xs ((get_or gates g no_gate).left / 2))) c.wire-reach-right.ensures
+    ∙ ap (λ a. union_word a c.wire_reach-right.result) c.wire_reach-left.ensures
+    ∙ ap (union_word (wire_reach c.args.head.inputs xs ((get_or gates g no_gate).left / 2))) c.wire_reach-right.ensures
     ∙ ap (gate_union c.args.head.inputs xs) (sym same) in (
       from_more c.args.head.inputs room g gs xs ys c.union.result
           (c.fill.ensures.after (λ y e. e) ∙ ap (replicate room) c.empty.ensures)

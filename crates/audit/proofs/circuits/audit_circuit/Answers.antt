@@ -3,13 +3,13 @@ use Rattle.audit.proofs.CircuitAuditLaw.{circuit_audited}
 use Rattle.audit.proofs.circuits.audit_circuit.Goals as goal
 
 -- src/circuits.rt:71:9
-pub returns-then-not-lawful-counts : goal.returns-then-not-lawful-counts
-returns-then-not-lawful-counts c = record { is = search rules; lawful = circuit_audited c.args.head c.args.outputs.now c.args.gates.now (search rules) }
+pub returns-then-not-lawful_counts : goal.returns-then-not-lawful_counts
+returns-then-not-lawful_counts c = record { is = search rules; lawful = circuit_audited c.args.head c.args.outputs.now c.args.gates.now (search rules) }
 
 -- src/circuits.rt:66:1
-pub returns-then-lawful-gates : goal.returns-then-lawful-gates
-returns-then-lawful-gates c = record { is = search rules; lawful = circuit_audited c.args.head c.args.outputs.now c.args.gates.now (search rules) }
+pub returns-then-lawful_gates : goal.returns-then-lawful_gates
+returns-then-lawful_gates c = record { is = search rules; lawful = circuit_audited c.args.head c.args.outputs.now c.args.gates.now (search rules) }
 
 -- src/circuits.rt:66:1
-pub returns-else-lawful-gates : goal.returns-else-lawful-gates
-returns-else-lawful-gates c = record { is = search rules; lawful = circuit_audited c.args.head c.args.outputs.now c.args.gates.now (search rules) }
+pub returns-else-lawful_gates : goal.returns-else-lawful_gates
+returns-else-lawful_gates c = record { is = search rules; lawful = circuit_audited c.args.head c.args.outputs.now c.args.gates.now (search rules) }

@@ -11,5 +11,5 @@ loop-variable-preserved c = search (rules, each_more)
 pub returns : goal.returns
 returns c = search (rules, each_all)
 
-pub returns-in-default : goal.returns-in-default
-returns-in-default c = search (rules, each_no)
+pub returns-in_default : goal.returns-in_default
+returns-in_default c = search (rules, each_no)

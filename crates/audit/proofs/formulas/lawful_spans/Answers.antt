@@ -10,8 +10,8 @@ loop-clause-init c = (refl, omega arith, refl, length-replicate {A = ℕ} 65536 
 pub returns-then-clause-at : goal.returns-then-clause-at
 returns-then-clause-at c = search (rules, spans_step)
 
-pub returns-then-not-lawful-clause : goal.returns-then-not-lawful-clause
-returns-then-not-lawful-clause c = search (rules, spans_step)
+pub returns-then-not-lawful_clause : goal.returns-then-not-lawful_clause
+returns-then-not-lawful_clause c = search (rules, spans_step)
 
 pub loop-clause-preserved : goal.loop-clause-preserved
 loop-clause-preserved c = search (rules, spans_step)

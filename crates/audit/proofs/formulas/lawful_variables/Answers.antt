@@ -9,8 +9,8 @@ returns-then-not-own c = search (rules, records_step)
 pub loop-i-preserved : goal.loop-i-preserved
 loop-i-preserved c = search (rules, records_step)
 
-pub returns-then-has-owners-2 : goal.returns-then-has-owners-2
-returns-then-has-owners-2 c = search (rules, records_all, take_rest)
+pub returns-then-has_owners-2 : goal.returns-then-has_owners-2
+returns-then-has_owners-2 c = search (rules, records_all, take_rest)
 
-pub returns-else-has-owners-2 : goal.returns-else-has-owners-2
-returns-else-has-owners-2 c = search (rules, records_all)
+pub returns-else-has_owners-2 : goal.returns-else-has_owners-2
+returns-else-has_owners-2 c = search (rules, records_all)

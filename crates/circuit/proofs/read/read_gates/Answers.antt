@@ -4,8 +4,8 @@ use Rattle.words.proofs.TableLaws.{drop_more_set}
 use Rattle.circuit.proofs.CountLaws.{one_left}
 use Rattle.circuit.proofs.read.read_gates.Goals as goal
 
-pub returns-in-err-gate : goal.returns-in-err-gate
-returns-in-err-gate c =
+pub returns-in_err-gate : goal.returns-in_err-gate
+returns-in_err-gate c =
     let less = one_left c.args.head.gates c.loop-g.g c.loop-g-test.true in
     let front = length-take-le c.loop-g.g c.loop-g.gates (omega arith) in
     search rules
@@ -13,7 +13,7 @@ returns-in-err-gate c =
 pub loop-g-preserved : goal.loop-g-preserved
 loop-g-preserved c =
     let g = c.loop-g.g in
-    let gate = c.in-ok-gate.gate in
+    let gate = c.in_ok-gate.gate in
     let less = one_left c.args.head.gates g c.loop-g-test.true in
     let front = length-take-le g c.loop-g.gates (omega arith) in
     let more = take_more_set c.loop-g.gates g gate (omega arith) in

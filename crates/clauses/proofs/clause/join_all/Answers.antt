@@ -8,9 +8,9 @@ use Rattle.clauses.proofs.RowLaws.{drop_more_set}
 use Rattle.clauses.proofs.clause.join_all.Goals as goal
 use Rattle.clauses.proofs.clause.join_all.Goals.{in-Same, in-Opposite, in-Neither}
 
-pub loop-y-preserved-then-is-excepted : goal.loop-y-preserved-then-is-excepted
-loop-y-preserved-then-is-excepted g c = (
-  sym (join_skip _ _ _ c.loop-y-test.true c.y-item.is g.L.Alike.like g.L.Literal.opposite c.args.except (joined (take c.loop-y.len c.loop-y.row) c.loop-y.clash) c.if-is-excepted.ensures)
+pub loop-y-preserved-then-is_excepted : goal.loop-y-preserved-then-is_excepted
+loop-y-preserved-then-is_excepted g c = (
+  sym (join_skip _ _ _ c.loop-y-test.true c.y-item.is g.L.Alike.like g.L.Literal.opposite c.args.except (joined (take c.loop-y.len c.loop-y.row) c.loop-y.clash) c.if-is_excepted.ensures)
       ∙ c.loop-y.invariant.0,
   c.loop-y.invariant.1,
   c.loop-y.invariant.2,
@@ -23,7 +23,7 @@ loop-y-preserved g c =
     let j : Joined g.row.L.Denot = joined (take c.loop-y.len c.loop-y.row) c.loop-y.clash in
     let F : ℕ → Found = λ n. found_in g.L.Alike.like c.y-item.result c.complement.result (take n c.loop-y.row) in
     let turn = λ (f : Found) (e : f ≡ F (c.loop-y.len - 0)).
-    sym (join_more _ _ _ c.loop-y-test.true c.y-item.is g.L.Alike.like g.L.Literal.opposite c.args.except j c.if-is-excepted.ensures c.complement.ensures (e ∙ ap F (sub-zero _))) ∙ c.loop-y.invariant.0 in
+    sym (join_more _ _ _ c.loop-y-test.true c.y-item.is g.L.Alike.like g.L.Literal.opposite c.args.except j c.if-is_excepted.ensures c.complement.ensures (e ∙ ap F (sub-zero _))) ∙ c.loop-y.invariant.0 in
     let inside : c.loop-y.len < length c.loop-y.row = omega arith in
     let written = take_more_set c.loop-y.row c.loop-y.len c.y-item.result inside in
     elim c.match-find.branch [

@@ -6,9 +6,9 @@ use Rattle.clauses.proofs.clause.keep_once.Goals as goal
 
 pub returns : goal.returns
 returns g c =
-    let told = front_told c.join-all.result.len c.join-all.result.clash c.join-all.new.row (omega arith) (once g.L.Alike.like g.L.Literal.opposite c.args.premise.now) c.join-all.ensures.is c.args.row.now c.join-all.ensures.behind.0 in
+    let told = front_told c.join_all.result.len c.join_all.result.clash c.join_all.new.row (omega arith) (once g.L.Alike.like g.L.Literal.opposite c.args.premise.now) c.join_all.ensures.is c.args.row.now c.join_all.ensures.behind.0 in
     let room : leb (length c.args.premise.now) (length c.args.row.now) ≡ true = le-leb _ _ c.if-row-premise.false in
     record {
-      answer = ap (λ r. told_clause r c.join-all.new.row) c.judge.ensures ∙ told.0 ∙ sym (cond-true _ _ _ room);
+      answer = ap (λ r. told_clause r c.join_all.new.row) c.judge.ensures ∙ told.0 ∙ sym (cond-true _ _ _ room);
       row = told.1 ∙ sym (cond-true _ _ _ room);
     }

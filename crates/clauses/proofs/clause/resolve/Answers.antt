@@ -22,12 +22,12 @@ returns g c =
     let there = sym c.if-not-contains.ensures in
     let rest : List g.row.L.Denot = take (c.args.position - 1) c.args.first.now ++ drop c.args.position c.args.first.now in
     let long = length_without c.args.first.now c.args.position (omega arith) c.if-position-first.false in
-    let start : take (length c.args.first.now - 1) c.copy-without.new.row ≡ rest = ap (take (length c.args.first.now - 1)) c.copy-without.ensures ∙ take_over rest c.args.row.now _ long in
-    let behind = ap (drop c.join-all.result.len) c.copy-without.ensures ∙ drop_over rest c.args.row.now c.join-all.result.len (omega arith) in
+    let start : take (length c.args.first.now - 1) c.copy_without.new.row ≡ rest = ap (take (length c.args.first.now - 1)) c.copy_without.ensures ∙ take_over rest c.args.row.now _ long in
+    let behind = ap (drop c.join_all.result.len) c.copy_without.ensures ∙ drop_over rest c.args.row.now c.join_all.result.len (omega arith) in
     let told =
-    front_told c.join-all.result.len c.join-all.result.clash c.join-all.new.row (omega arith)
+    front_told c.join_all.result.len c.join_all.result.clash c.join_all.new.row (omega arith)
     (resolvent g.L.Alike.like g.L.Literal.opposite c.args.first.now c.args.second.now c.complement-pivot.result c.args.position)
-    (c.join-all.ensures.is ∙ ap (λ l. join g.L.Alike.like g.L.Literal.opposite (Some c.complement-pivot.result) (joined l false) c.args.second.now) start)
-    c.args.row.now (c.join-all.ensures.behind.0 ∙ behind) in
+    (c.join_all.ensures.is ∙ ap (λ l. join g.L.Alike.like g.L.Literal.opposite (Some c.complement-pivot.result) (joined l false) c.args.second.now) start)
+    c.args.row.now (c.join_all.ensures.behind.0 ∙ behind) in
     by_pivot g.L.Alike.like g.L.Literal.opposite c.args.first.now c.args.second.now c.args.position _ c.args.row.now _ (omega arith) (Some c.complement-pivot.result)
-    pivot (ap (λ r. told_clause r c.join-all.new.row) c.judge.ensures ∙ told.0 ∙ sym (cond-true _ _ _ there)) (told.1 ∙ sym (cond-true _ _ _ there))
+    pivot (ap (λ r. told_clause r c.join_all.new.row) c.judge.ensures ∙ told.0 ∙ sym (cond-true _ _ _ there)) (told.1 ∙ sym (cond-true _ _ _ there))

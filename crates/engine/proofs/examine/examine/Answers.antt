@@ -5,8 +5,8 @@ use Rattle.engine.proofs.HistoryLaws.{all_runs_lawful}
 use Rattle.engine.proofs.VerdictLaws.{run_examined}
 use Rattle.engine.proofs.examine.examine.Goals as goal
 
-pub returns-in-err-examiner : goal.returns-in-err-examiner
-returns-in-err-examiner g c =
+pub returns-in_err-examiner : goal.returns-in_err-examiner
+returns-in_err-examiner g c =
     record {
       examined = MatchResult-from_err c.from-residual.result _ _ c.from-residual.ensures.0 (λ _. refl);
       lawful = all_runs_lawful (rules g.S.Side g.F.Shelf c.args.side c.args.shelf) (g.S.Side.few c.args.side);
@@ -14,10 +14,10 @@ returns-in-err-examiner g c =
 
 pub returns : goal.returns
 returns g c =
-    let made = c.in-ok-examiner.ensures in
+    let made = c.in_ok-examiner.ensures in
     record {
       examined =
-          run_examined g.S.Side g.F.Shelf c.run.result c.args.calls.now c.args.answers.now c.run.new.answers c.in-ok-examiner.examiner c.run.new.examiner c.run.ensures.runs
+          run_examined g.S.Side g.F.Shelf c.run.result c.args.calls.now c.args.answers.now c.run.new.answers c.in_ok-examiner.examiner c.run.new.examiner c.run.ensures.runs
           c.args.side c.args.shelf made.0 made.1 made.2 c.run.ensures.count;
       lawful = all_runs_lawful (rules g.S.Side g.F.Shelf c.args.side c.args.shelf) (g.S.Side.few c.args.side);
     }

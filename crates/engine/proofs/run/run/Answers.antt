@@ -7,8 +7,8 @@ use Rattle.engine.proofs.run.run.Goals as goal
 
 pub loop-i-preserved : goal.loop-i-preserved
 loop-i-preserved g c =
-    runs_more g.S.Side g.F.Shelf c.loop-i.i c.args.calls.now c.args.answers.now c.loop-i.answers c.args.examiner.now c.loop-i.examiner c.make-call.new.examiner (call.Open 0) c.make-call.result
-    (omega arith) (omega arith) c.loop-i.invariant c.make-call.ensures.calls
+    runs_more g.S.Side g.F.Shelf c.loop-i.i c.args.calls.now c.args.answers.now c.loop-i.answers c.args.examiner.now c.loop-i.examiner c.make_call.new.examiner (call.Open 0) c.make_call.result
+    (omega arith) (omega arith) c.loop-i.invariant c.make_call.ensures.calls
 
 pub returns : goal.returns
 returns g c =

@@ -14,11 +14,11 @@ loop-i-preserved c =
     let i = c.loop-i.i in
     let row = c.loop-i.row in
     let clause = c.clause-clause.result.now in (
-      take_more_set row i c.goal-entry.result (omega arith)
-          ∙ ap (λ l. l ++ c.goal-entry.result ∷ []) c.loop-i.invariant.0
-          ∙ ap (λ e. map f (take i clause) ++ e ∷ []) c.goal-entry.ensures
+      take_more_set row i c.goal_entry.result (omega arith)
+          ∙ ap (λ l. l ++ c.goal_entry.result ∷ []) c.loop-i.invariant.0
+          ∙ ap (λ e. map f (take i clause) ++ e ∷ []) c.goal_entry.ensures
           ∙ sym (map_more f clause i no_literal (omega arith)),
-      drop_more_set row c.args.row.now i c.goal-entry.result c.loop-i.invariant.1,
+      drop_more_set row c.args.row.now i c.goal_entry.result c.loop-i.invariant.1,
     )
 
 -- behind the last turn as much stands there as there is room for

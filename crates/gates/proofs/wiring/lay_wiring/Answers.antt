@@ -16,6 +16,6 @@ pub returns-in-2 : goal.returns-in-2
 returns-in-2 c =
     record { laid = search rules; holds = wiring_true (circuit_rows c.args.circuit.now) c.args.class c.args.number c.args.part }
 
-pub returns-in-default : goal.returns-in-default
-returns-in-default c =
+pub returns-in_default : goal.returns-in_default
+returns-in_default c =
     record { laid = search rules; holds = wiring_true (circuit_rows c.args.circuit.now) c.args.class c.args.number c.args.part }

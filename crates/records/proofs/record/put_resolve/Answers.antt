@@ -10,7 +10,7 @@ returns c =
     let s : Step = Resolve c.args.first c.args.second c.args.position in
     let fits : Fits s = (omega arith, omega arith, omega arith) in
     let out = c.args.out.now in
-    let last = c.put-front.new.out in
-    let count : c.put-front.result ≡ put_count (record_of s) (length out) = search rules in
+    let last = c.put_front.new.out in
+    let count : c.put_front.result ≡ put_count (record_of s) (length out) = search rules in
     let written : last ≡ put_front (record_of s) out = search rules in
-    writes s out last c.put-front.result fits count written
+    writes s out last c.put_front.result fits count written

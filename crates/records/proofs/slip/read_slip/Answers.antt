@@ -8,17 +8,17 @@ pub returns-in-0 : goal.returns-in-0
 returns-in-0 c =
     let bs = c.args.bytes.now in
     let v = get_or bs 3 0 in
-    let case = c.u32-of-case.result in
-    let clauses = c.u32-of-clauses.result in
-    let goal = c.u32-of-goal.result in
+    let case = c.u32_of-case.result in
+    let clauses = c.u32_of-clauses.result in
+    let goal = c.u32_of-goal.result in
     let begins : begins_slip bs ≡ true = search rules in
-    let whole = fields_whole bs case clauses goal begins c.u32-of-case.ensures c.u32-of-clauses.ensures c.u32-of-goal.ensures in
-    let r = c.slip-with.result in
-    let is = slip_told bs v case clauses goal whole r c.u32-of-case.type-inv c.u32-of-clauses.type-inv c.u32-of-goal.type-inv c.slip-with.ensures.is in
-    record { is = is; law = slip_law bs v case clauses goal whole r is c.slip-with.ensures.law }
+    let whole = fields_whole bs case clauses goal begins c.u32_of-case.ensures c.u32_of-clauses.ensures c.u32_of-goal.ensures in
+    let r = c.slip_with.result in
+    let is = slip_told bs v case clauses goal whole r c.u32_of-case.type_inv c.u32_of-clauses.type_inv c.u32_of-goal.type_inv c.slip_with.ensures.is in
+    record { is = is; law = slip_law bs v case clauses goal whole r is c.slip_with.ensures.law }
 
-pub returns-in-default : goal.returns-in-default
-returns-in-default c =
+pub returns-in_default : goal.returns-in_default
+returns-in_default c =
     let bs = c.args.bytes.now in
     let begins : begins_slip bs ≡ false = search rules in
     let is : Err (told c.malformed.result) ≡ slip_from bs = rw (begins, c.malformed.ensures) in

@@ -5,24 +5,24 @@ use Rattle.records.proofs.slip.write_slip.Goals as goal
 
 pub returns-in-True : goal.returns-in-True
 returns-in-True c =
-    let r = c.join-fields.result in
+    let r = c.join_fields.result in
     let is : r ≡ slip_bytes c.args.slip = search rules in
     record { is = is; back = slip_back c.args.slip r is }
 
 pub returns-in-False : goal.returns-in-False
 returns-in-False c =
-    let r = c.join-fields-in-False.result in
+    let r = c.join_fields-in-False.result in
     let is : r ≡ slip_bytes c.args.slip = search rules in
     record { is = is; back = slip_back c.args.slip r is }
 
 pub returns-in-Unproved : goal.returns-in-Unproved
 returns-in-Unproved c =
-    let r = c.join-fields-in-Unproved.result in
+    let r = c.join_fields-in-Unproved.result in
     let is : r ≡ slip_bytes c.args.slip = search rules in
     record { is = is; back = slip_back c.args.slip r is }
 
 pub returns-in-Stray : goal.returns-in-Stray
 returns-in-Stray c =
-    let r = c.join-fields-in-Stray.result in
+    let r = c.join_fields-in-Stray.result in
     let is : r ≡ slip_bytes c.args.slip = search rules in
     record { is = is; back = slip_back c.args.slip r is }

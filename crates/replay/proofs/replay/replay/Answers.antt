@@ -4,8 +4,8 @@ use Rattle.engine.proofs.HistoryLaws.{all_runs_lawful}
 use Rattle.replay.proofs.ReplayLaws.{replays_made}
 use Rattle.replay.proofs.replay.replay.Goals as goal
 
-pub returns-in-err-examiner : goal.returns-in-err-examiner
-returns-in-err-examiner g c =
+pub returns-in_err-examiner : goal.returns-in_err-examiner
+returns-in_err-examiner g c =
     record {
       is = IfOk-from_err c.from-residual.result _ c.from-residual.ensures.0;
       holds = IfOk-from_err c.from-residual.result _ c.from-residual.ensures.0;
@@ -14,8 +14,8 @@ returns-in-err-examiner g c =
 
 pub returns : goal.returns
 returns g c =
-    let made = c.in-ok-examiner.ensures in
-    let all = replays_made g.S.Side g.F.Shelf c.args.case c.args.proof.now c.replay-on.result c.in-ok-examiner.examiner c.args.side c.args.shelf made.0 made.1 made.2 c.replay-on.ensures in
+    let made = c.in_ok-examiner.ensures in
+    let all = replays_made g.S.Side g.F.Shelf c.args.case c.args.proof.now c.replay_on.result c.in_ok-examiner.examiner c.args.side c.args.shelf made.0 made.1 made.2 c.replay_on.ensures in
     record {
       is = all.0;
       holds = all.1;

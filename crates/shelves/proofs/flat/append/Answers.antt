@@ -9,8 +9,8 @@ loop-entry-preserved c =
     let cs = c.args.clause.now in
     let k = c.loop-entry.entry-index in
     let x = get_or cs k no_entry in
-    let items : c.push-reserved.new.self.items ≡ was ++ take (k + 1) cs =
-    c.push-reserved.ensures.items
+    let items : c.push_reserved.new.self.items ≡ was ++ take (k + 1) cs =
+    c.push_reserved.ensures.items
     ∙ ap (λ l. l ++ x ∷ []) c.loop-entry.invariant.0
     ∙ append_assoc was (take k cs) (x ∷ [])
     ∙ ap (λ l. was ++ l) (sym (take_more cs k no_entry (omega arith))) in

@@ -9,17 +9,17 @@ use Rattle.tasks.proofs.task.check_case.Goals as goal
 
 pub returns-in-Ok : goal.returns-in-Ok
 returns-in-Ok g c =
-    let replayed = c.in-ok-report.ensures in
-    let bytes = c.write-slip-slip.ensures.is in
+    let replayed = c.in_ok-report.ensures in
+    let bytes = c.write_slip-slip.ensures.is in
     record {
-      is = case_closed c.args.heads (rules g.S.Side g.F.Shelf c.args.side c.args.shelf) c.args.case c.args.proof.now c.in-ok-report.field-0 replayed.is c.in-Ok.report c.write-slip-slip.result c.in-Ok.is bytes;
+      is = case_closed c.args.heads (rules g.S.Side g.F.Shelf c.args.side c.args.shelf) c.args.case c.args.proof.now c.in_ok-report.field-0 replayed.is c.in-Ok.report c.write_slip-slip.result c.in-Ok.is bytes;
       holds = (bytes, subst (λ (o : Result Report Fault). ReportHolds g.S.Side c.args.side o) c.in-Ok.is replayed.holds);
     }
 
 pub returns-in-Err : goal.returns-in-Err
 returns-in-Err g c =
-    let replayed = c.in-ok-report.ensures in
+    let replayed = c.in_ok-report.ensures in
     record {
-      is = case_refused c.args.heads (rules g.S.Side g.F.Shelf c.args.side c.args.shelf) c.args.case c.args.proof.now c.in-ok-report.field-0 replayed.is c.in-Err.fault c.in-Err.is;
+      is = case_refused c.args.heads (rules g.S.Side g.F.Shelf c.args.side c.args.shelf) c.args.case c.args.proof.now c.in_ok-report.field-0 replayed.is c.in-Err.fault c.in-Err.is;
       holds = tt;
     }

@@ -9,10 +9,10 @@ use Rattle.tasks.proofs.FalsityLaws.{FalsityEnds, FalsityMeans, FalsityRead, for
 use Rattle.tasks.proofs.NeverLaws.{never_both_texts}
 use Rattle.tasks.proofs.task.check_falsity.Given as given
 use Rattle.tasks.proofs.task.check_falsity.Goals as goal
-use Rattle.tasks.proofs.task.check_falsity.Goals.{After-check-case}
+use Rattle.tasks.proofs.task.check_falsity.Goals.{After-check_case}
 
-pub returns-in-err-rows : goal.returns-in-err-rows
-returns-in-err-rows g c =
+pub returns-in_err-rows : goal.returns-in_err-rows
+returns-in_err-rows g c =
     let failed = c.from-residual.ensures.0 in
     let r = c.from-residual.result in
     record {
@@ -25,27 +25,27 @@ pub returns-in-Err : goal.returns-in-Err
 returns-in-Err g c =
     record {
       is = formula_is_refused c.args.proof.now c.args.case (g.F.Shelf.K c.args.shelf) (g.F.Shelf.W c.args.shelf) c.args.formula.now c.in-Err.fault
-          (ap told_rows (sym c.in-Err.is) ∙ c.in-ok-rows.ensures.is);
+          (ap told_rows (sym c.in-Err.is) ∙ c.in_ok-rows.ensures.is);
       holds = λ e. absurd e;
       never = never_both_texts c.args.formula.now;
     }
 
 -- what was read and lent before the case
-read : (g : given.Over) (c : After-check-case g) → FalsityRead c.args.formula.now c.in-Ok.rows c.new-side.result
+read : (g : given.Over) (c : After-check_case g) → FalsityRead c.args.formula.now c.in-Ok.rows c.new-side.result
 read g c =
     record {
-      formula_is = ap told_rows (sym c.in-Ok.is) ∙ c.in-ok-rows.ensures.is;
-      formula_spelt = subst (λ (o : Result FormulaRows Fault). ReadsFormula c.args.formula.now (told_rows o)) c.in-Ok.is c.in-ok-rows.ensures.spelt;
+      formula_is = ap told_rows (sym c.in-Ok.is) ∙ c.in_ok-rows.ensures.is;
+      formula_spelt = subst (λ (o : Result FormulaRows Fault). ReadsFormula c.args.formula.now (told_rows o)) c.in-Ok.is c.in_ok-rows.ensures.spelt;
       formula_lent = ap formula_rows c.new-side.ensures.formula ∙ c.tables.ensures;
     }
 
 pub returns : goal.returns
 returns g c =
     let formula = c.args.formula.now in
-    let all = read g (goal.at.returns g c).After-check-case in
+    let all = read g (goal.at.returns g c).After-check_case in
     let side = c.new-side.result in
     record {
-      is = IfOk-weaker c.check-case.result _ _ (falsity_case formula c.in-Ok.rows side all g.F.Shelf c.args.shelf c.args.proof.now c.args.case) c.check-case.ensures.is;
-      holds = IfOk-weaker c.check-case.result _ _ (falsity_means formula c.in-Ok.rows side all) c.check-case.ensures.holds;
+      is = IfOk-weaker c.check_case.result _ _ (falsity_case formula c.in-Ok.rows side all g.F.Shelf c.args.shelf c.args.proof.now c.args.case) c.check_case.ensures.is;
+      holds = IfOk-weaker c.check_case.result _ _ (falsity_means formula c.in-Ok.rows side all) c.check_case.ensures.holds;
       never = never_both_texts formula;
     }

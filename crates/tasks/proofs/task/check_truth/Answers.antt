@@ -10,10 +10,10 @@ use Rattle.tasks.proofs.NeverLaws.{never_both_texts}
 use Rattle.tasks.proofs.TruthLaws.{TruthEnds, TruthMeans, TruthRead, formula_is_refused, circuit_is_refused, truth_case, truth_means}
 use Rattle.tasks.proofs.task.check_truth.Given as given
 use Rattle.tasks.proofs.task.check_truth.Goals as goal
-use Rattle.tasks.proofs.task.check_truth.Goals.{After-check-case}
+use Rattle.tasks.proofs.task.check_truth.Goals.{After-check_case}
 
-pub returns-in-err-rows : goal.returns-in-err-rows
-returns-in-err-rows g c =
+pub returns-in_err-rows : goal.returns-in_err-rows
+returns-in_err-rows g c =
     let failed = c.from-residual.ensures.0 in
     let r = c.from-residual.result in
     record {
@@ -26,15 +26,15 @@ pub returns-in-Err : goal.returns-in-Err
 returns-in-Err g c =
     record {
       is = formula_is_refused c.args.proof.now c.args.case (g.F.Shelf.K c.args.shelf) (g.F.Shelf.W c.args.shelf) c.args.formula.now c.args.circuit.now c.in-Err.fault
-          (ap told_rows (sym c.in-Err.is) ∙ c.in-ok-rows.ensures.is);
+          (ap told_rows (sym c.in-Err.is) ∙ c.in_ok-rows.ensures.is);
       holds = λ e. absurd e;
       never = never_both_texts c.args.formula.now;
     }
 
-pub returns-in-err-circuits : goal.returns-in-err-circuits
-returns-in-err-circuits g c =
-    let failed = c.from-residual-in-err-circuits.ensures.0 in
-    let r = c.from-residual-in-err-circuits.result in
+pub returns-in_err-circuits : goal.returns-in_err-circuits
+returns-in_err-circuits g c =
+    let failed = c.from-residual-in_err-circuits.ensures.0 in
+    let r = c.from-residual-in_err-circuits.result in
     record {
       is = IfOk-from_err r (TruthEnds c.args.proof.now c.args.case (g.F.Shelf.K c.args.shelf) (g.F.Shelf.W c.args.shelf) c.args.formula.now c.args.circuit.now) failed;
       holds = IfOk-from_err r (TruthMeans c.args.formula.now c.args.circuit.now) failed;
@@ -45,21 +45,21 @@ pub returns-in-Err-2 : goal.returns-in-Err-2
 returns-in-Err-2 g c =
     record {
       is = circuit_is_refused c.args.proof.now c.args.case (g.F.Shelf.K c.args.shelf) (g.F.Shelf.W c.args.shelf) c.args.formula.now c.args.circuit.now c.in-Ok.rows c.in-Err-2.fault
-          (ap told_rows (sym c.in-Ok.is) ∙ c.in-ok-rows.ensures.is)
-          (ap told_circuit_rows (sym c.in-Err-2.is) ∙ c.in-ok-circuits.ensures.is);
+          (ap told_rows (sym c.in-Ok.is) ∙ c.in_ok-rows.ensures.is)
+          (ap told_circuit_rows (sym c.in-Err-2.is) ∙ c.in_ok-circuits.ensures.is);
       holds = λ e. absurd e;
       never = never_both_texts c.args.formula.now;
     }
 
 -- what was read and lent before the case
-read : (g : given.Over) (c : After-check-case g) → TruthRead c.args.formula.now c.args.circuit.now c.in-Ok.rows c.in-Ok-2.circuits c.new-side.result
+read : (g : given.Over) (c : After-check_case g) → TruthRead c.args.formula.now c.args.circuit.now c.in-Ok.rows c.in-Ok-2.circuits c.new-side.result
 read g c =
     record {
-      formula_is = ap told_rows (sym c.in-Ok.is) ∙ c.in-ok-rows.ensures.is;
-      formula_spelt = subst (λ (o : Result FormulaRows Fault). ReadsFormula c.args.formula.now (told_rows o)) c.in-Ok.is c.in-ok-rows.ensures.spelt;
+      formula_is = ap told_rows (sym c.in-Ok.is) ∙ c.in_ok-rows.ensures.is;
+      formula_spelt = subst (λ (o : Result FormulaRows Fault). ReadsFormula c.args.formula.now (told_rows o)) c.in-Ok.is c.in_ok-rows.ensures.spelt;
       formula_lent = ap formula_rows c.new-side.ensures.formula ∙ c.tables.ensures;
-      circuit_is = ap told_circuit_rows (sym c.in-Ok-2.is) ∙ c.in-ok-circuits.ensures.is;
-      circuit_spelt = subst (λ (o : Result CircuitRows Fault). ReadsCircuit c.args.circuit.now (told_circuit_rows o)) c.in-Ok-2.is c.in-ok-circuits.ensures.spelt;
+      circuit_is = ap told_circuit_rows (sym c.in-Ok-2.is) ∙ c.in_ok-circuits.ensures.is;
+      circuit_spelt = subst (λ (o : Result CircuitRows Fault). ReadsCircuit c.args.circuit.now (told_circuit_rows o)) c.in-Ok-2.is c.in_ok-circuits.ensures.spelt;
       circuit_lent = ap circuit_rows c.new-side.ensures.circuit ∙ c.tables-2.ensures;
     }
 
@@ -67,10 +67,10 @@ pub returns : goal.returns
 returns g c =
     let formula = c.args.formula.now in
     let circuit = c.args.circuit.now in
-    let all = read g (goal.at.returns g c).After-check-case in
+    let all = read g (goal.at.returns g c).After-check_case in
     let side = c.new-side.result in
     record {
-      is = IfOk-weaker c.check-case.result _ _ (truth_case formula circuit c.in-Ok.rows c.in-Ok-2.circuits side all g.F.Shelf c.args.shelf c.args.proof.now c.args.case) c.check-case.ensures.is;
-      holds = IfOk-weaker c.check-case.result _ _ (truth_means formula circuit c.in-Ok.rows c.in-Ok-2.circuits side all) c.check-case.ensures.holds;
+      is = IfOk-weaker c.check_case.result _ _ (truth_case formula circuit c.in-Ok.rows c.in-Ok-2.circuits side all g.F.Shelf c.args.shelf c.args.proof.now c.args.case) c.check_case.ensures.is;
+      holds = IfOk-weaker c.check_case.result _ _ (truth_means formula circuit c.in-Ok.rows c.in-Ok-2.circuits side all) c.check_case.ensures.holds;
       never = never_both_texts formula;
     }

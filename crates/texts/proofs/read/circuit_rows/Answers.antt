@@ -6,27 +6,27 @@ use Rattle.texts.specs.Spelled.{ReadsCircuit}
 use Rattle.texts.proofs.CircuitRead.{circuit_rows_in, accepted_rows, refused_rows, accepted_reads, refused_reads}
 use Rattle.texts.proofs.read.circuit_rows.Goals as goal
 
-pub returns-in-err-gates : goal.returns-in-err-gates
-returns-in-err-gates c =
-    let failed = c.from-residual-in-err-gates.ensures.0 in
-    let r = c.from-residual-in-err-gates.result in
+pub returns-in_err-gates : goal.returns-in_err-gates
+returns-in_err-gates c =
+    let failed = c.from-residual-in_err-gates.ensures.0 in
+    let r = c.from-residual-in_err-gates.result in
     record { is = IfOk-from_err r _ failed; spelt = IfOk-from_err r _ failed }
 
 pub returns-in-Ok : goal.returns-in-Ok
 returns-in-Ok c =
     let text = c.args.text.now in
     let head = c.in-Ok.head in
-    let os = c.read-circuit.new.outputs in
-    let gs = c.read-circuit.new.gates in
-    let place = c.read-circuit.new.place.at in
-    let os-long = c.as-mut-slice.ensures.len in
-    let gs-long = c.as-mut-slice-2.ensures.len in
+    let os = c.read_circuit.new.outputs in
+    let gs = c.read_circuit.new.gates in
+    let place = c.read_circuit.new.place.at in
+    let os-long = c.as_mut_slice.ensures.len in
+    let gs-long = c.as_mut_slice-2.ensures.len in
     let same =
-    ap₂ (circuit_rows_in head) (with_items_is c.in-ok-outputs.outputs os (c.read-circuit.auto.outputs ∙ os-long))
-    (with_items_is c.in-ok-gates.gates gs (c.read-circuit.auto.gates ∙ gs-long)) in
+    ap₂ (circuit_rows_in head) (with_items_is c.in_ok-outputs.outputs os (c.read_circuit.auto.outputs ∙ os-long))
+    (with_items_is c.in_ok-gates.gates gs (c.read_circuit.auto.gates ∙ gs-long)) in
     record {
       is = ap Ok same
-          ∙ accepted_rows text _ _ os gs place (os-long ∙ c.in-ok-outputs.ensures.len) (gs-long ∙ c.in-ok-gates.ensures.len) head c.in-Ok.ensures.is;
+          ∙ accepted_rows text _ _ os gs place (os-long ∙ c.in_ok-outputs.ensures.len) (gs-long ∙ c.in_ok-gates.ensures.len) head c.in-Ok.ensures.is;
       spelt = subst (λ (t : RowsOfCircuit). ReadsCircuit text (Ok t)) (sym same) (accepted_reads text os gs place head c.in-Ok.ensures.spelt);
     }
 
@@ -34,12 +34,12 @@ pub returns-in-Err : goal.returns-in-Err
 returns-in-Err c =
     let text = c.args.text.now in
     let fault = c.in-Err.fault in
-    let os = c.read-circuit.new.outputs in
-    let gs = c.read-circuit.new.gates in
-    let place = c.read-circuit.new.place.at in
-    let os-long = c.as-mut-slice.ensures.len ∙ c.in-ok-outputs.ensures.len in
-    let gs-long = c.as-mut-slice-2.ensures.len ∙ c.in-ok-gates.ensures.len in
+    let os = c.read_circuit.new.outputs in
+    let gs = c.read_circuit.new.gates in
+    let place = c.read_circuit.new.place.at in
+    let os-long = c.as_mut_slice.ensures.len ∙ c.in_ok-outputs.ensures.len in
+    let gs-long = c.as_mut_slice-2.ensures.len ∙ c.in_ok-gates.ensures.len in
     record {
       is = refused_rows text _ _ os gs place os-long gs-long fault c.in-Err.ensures.is;
-      spelt = refused_reads text os gs place fault (c.read-circuit.auto.outputs ∙ os-long) (c.read-circuit.auto.gates ∙ gs-long) c.in-Err.ensures.spelt;
+      spelt = refused_reads text os gs place fault (c.read_circuit.auto.outputs ∙ os-long) (c.read_circuit.auto.gates ∙ gs-long) c.in-Err.ensures.spelt;
     }

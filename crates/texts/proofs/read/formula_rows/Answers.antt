@@ -6,49 +6,49 @@ use Rattle.models.specs.HeldTables.{RowsOfFormula}
 use Rattle.texts.specs.Spelled.{ReadsFormula}
 use Rattle.texts.proofs.FormulaRead.{Lent, rows_same, accepted_rows, refused_rows, accepted_reads, refused_reads}
 use Rattle.texts.proofs.read.formula_rows.Goals as goal
-use Rattle.texts.proofs.read.formula_rows.Goals.{After-read-formula}
+use Rattle.texts.proofs.read.formula_rows.Goals.{After-read_formula}
 
-pub returns-in-err-clauses : goal.returns-in-err-clauses
-returns-in-err-clauses c =
-    let failed = c.from-residual-in-err-clauses.ensures.0 in
-    let r = c.from-residual-in-err-clauses.result in
+pub returns-in_err-clauses : goal.returns-in_err-clauses
+returns-in_err-clauses c =
+    let failed = c.from-residual-in_err-clauses.ensures.0 in
+    let r = c.from-residual-in_err-clauses.result in
     record { is = IfOk-from_err r _ failed; spelt = IfOk-from_err r _ failed }
 
-pub returns-in-err-literals : goal.returns-in-err-literals
-returns-in-err-literals c =
-    let failed = c.from-residual-in-err-literals.ensures.0 in
-    let r = c.from-residual-in-err-literals.result in
+pub returns-in_err-literals : goal.returns-in_err-literals
+returns-in_err-literals c =
+    let failed = c.from-residual-in_err-literals.ensures.0 in
+    let r = c.from-residual-in_err-literals.result in
     record { is = IfOk-from_err r _ failed; spelt = IfOk-from_err r _ failed }
 
 -- the tables that the reader was lent, before and after
-abbrev was : After-read-formula → Tables
-was c = record { variables = c.as-mut-slice.result.now; clauses = c.as-mut-slice-2.result.now; literals = c.as-mut-slice-3.result.now }
+abbrev was : After-read_formula → Tables
+was c = record { variables = c.as_mut_slice.result.now; clauses = c.as_mut_slice-2.result.now; literals = c.as_mut_slice-3.result.now }
 
-abbrev is : After-read-formula → Tables
-is c = record { variables = c.read-formula.new.vars; clauses = c.read-formula.new.clauses; literals = c.read-formula.new.literals }
+abbrev is : After-read_formula → Tables
+is c = record { variables = c.read_formula.new.vars; clauses = c.read_formula.new.clauses; literals = c.read_formula.new.literals }
 
-lent : (c : After-read-formula) → Lent c.args.text.now (was c) (is c)
+lent : (c : After-read_formula) → Lent c.args.text.now (was c) (is c)
 lent c =
     record {
-      variables = c.as-mut-slice.ensures.len ∙ c.in-ok-variables.ensures.len;
-      clauses = c.as-mut-slice-2.ensures.len ∙ c.in-ok-clauses.ensures.len;
-      literals = c.as-mut-slice-3.ensures.len ∙ c.in-ok-literals.ensures.len;
-      variables_kept = c.read-formula.auto.vars;
-      clauses_kept = c.read-formula.auto.clauses;
-      literals_kept = c.read-formula.auto.literals;
+      variables = c.as_mut_slice.ensures.len ∙ c.in_ok-variables.ensures.len;
+      clauses = c.as_mut_slice-2.ensures.len ∙ c.in_ok-clauses.ensures.len;
+      literals = c.as_mut_slice-3.ensures.len ∙ c.in_ok-literals.ensures.len;
+      variables_kept = c.read_formula.auto.vars;
+      clauses_kept = c.read_formula.auto.clauses;
+      literals_kept = c.read_formula.auto.literals;
     }
 
 pub returns-in-Ok : goal.returns-in-Ok
 returns-in-Ok c =
     let text = c.args.text.now in
     let head = c.in-Ok.head in
-    let place = c.read-formula.new.place.at in
-    let r = (goal.at.returns-in-Ok c).After-read-formula in
+    let place = c.read_formula.new.place.at in
+    let r = (goal.at.returns-in-Ok c).After-read_formula in
     let same =
     rows_same head
-    (with_items_is c.in-ok-variables.variables c.read-formula.new.vars (c.read-formula.auto.vars ∙ c.as-mut-slice.ensures.len))
-    (with_items_is c.in-ok-clauses.clauses c.read-formula.new.clauses (c.read-formula.auto.clauses ∙ c.as-mut-slice-2.ensures.len))
-    (with_items_is c.in-ok-literals.literals c.read-formula.new.literals (c.read-formula.auto.literals ∙ c.as-mut-slice-3.ensures.len)) in
+    (with_items_is c.in_ok-variables.variables c.read_formula.new.vars (c.read_formula.auto.vars ∙ c.as_mut_slice.ensures.len))
+    (with_items_is c.in_ok-clauses.clauses c.read_formula.new.clauses (c.read_formula.auto.clauses ∙ c.as_mut_slice-2.ensures.len))
+    (with_items_is c.in_ok-literals.literals c.read_formula.new.literals (c.read_formula.auto.literals ∙ c.as_mut_slice-3.ensures.len)) in
     record {
       is = ap Ok same ∙ accepted_rows text (was r) (is r) place (lent r) head c.in-Ok.ensures.is;
       spelt = subst (λ (t : RowsOfFormula). ReadsFormula text (Ok t)) (sym same) (accepted_reads text (is r) place head c.in-Ok.ensures.spelt);
@@ -58,8 +58,8 @@ pub returns-in-Err : goal.returns-in-Err
 returns-in-Err c =
     let text = c.args.text.now in
     let fault = c.in-Err.fault in
-    let place = c.read-formula.new.place.at in
-    let r = (goal.at.returns-in-Err c).After-read-formula in
+    let place = c.read_formula.new.place.at in
+    let r = (goal.at.returns-in-Err c).After-read_formula in
     record {
       is = refused_rows text (was r) (is r) place (lent r) fault c.in-Err.ensures.is;
       spelt = refused_reads text (was r) (is r) place (lent r) fault c.in-Err.ensures.spelt;

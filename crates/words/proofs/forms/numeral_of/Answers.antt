@@ -2,8 +2,8 @@ use Rattle.std.proofs.Common.{rules}
 use Rattle.std.proofs.lemmas.List.{take_rest}
 use Rattle.words.proofs.forms.numeral_of.Goals as goal
 
-pub returns-in-err-value : goal.returns-in-err-value
-returns-in-err-value c = let cut = take_rest c.args.word.now 1 in search rules
+pub returns-in_err-value : goal.returns-in_err-value
+returns-in_err-value c = let cut = take_rest c.args.word.now 1 in search rules
 
 pub returns-then-value-eq0 : goal.returns-then-value-eq0
 returns-then-value-eq0 c = let cut = take_rest c.args.word.now 1 in search rules

@@ -5,12 +5,12 @@ use Rattle.words.proofs.word.skip_blanks.Goals as goal
 
 pub loop-at-preserved : goal.loop-at-preserved
 loop-at-preserved c =
-    let e = prefix_len-drop_yes blank c.args.text.now c.loop-at.at 0 c.loop-at-test.true (sym c.if-is-blank.ensures) in
+    let e = prefix_len-drop_yes blank c.args.text.now c.loop-at.at 0 c.loop-at-test.true (sym c.if-is_blank.ensures) in
     omega arith
 
-pub returns-else-is-blank : goal.returns-else-is-blank
-returns-else-is-blank c =
-    let e = prefix_len-drop_no blank c.args.text.now c.loop-at.at 0 c.loop-at-test.true (sym c.if-is-blank.ensures) in
+pub returns-else-is_blank : goal.returns-else-is_blank
+returns-else-is_blank c =
+    let e = prefix_len-drop_no blank c.args.text.now c.loop-at.at 0 c.loop-at-test.true (sym c.if-is_blank.ensures) in
     omega arith
 
 pub returns-after-loop-at : goal.returns-after-loop-at

@@ -8,7 +8,7 @@ use Rattle.engine.proofs.examiner.Examiner.settled_count.Goals.{then-settled-i, 
 pub loop-i-preserved : goal.loop-i-preserved
 loop-i-preserved g c =
     let s : State = state_of g.S.Side g.F.Shelf c.args.self.now in
-    let read = ap (λ l. get_or l c.loop-i.i false) (sym c.as-slice-settled.ensures.value) in
+    let read = ap (λ l. get_or l c.loop-i.i false) (sym c.as_slice-settled.ensures.value) in
     elim c.if-settled-i.branch [
       | then-settled-i w ↦ let one = settled_next s c.loop-i.i true (read ∙ w.if-settled-i.true) in (omega (arith, w.count-is), omega (arith, w.count-is))
       | else-settled-i w ↦ let none = settled_next s c.loop-i.i false (read ∙ w.if-settled-i.false) in (omega (arith, w.count-is), omega (arith, w.count-is))

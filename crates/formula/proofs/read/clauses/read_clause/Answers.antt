@@ -7,27 +7,27 @@ use Rattle.formula.specs.Clauses.{Marks}
 use Rattle.formula.proofs.ClauseLaws.{clause_unfold, marks_push}
 use Rattle.formula.proofs.read.clauses.read_clause.Goals as goal
 
-pub returns-in-err-number : goal.returns-in-err-number
-returns-in-err-number c =
+pub returns-in_err-number : goal.returns-in_err-number
+returns-in_err-number c =
     let step = clause_unfold c.args.known c.args.vars.now (take c.loop-number.n c.loop-number.rest) (length c.args.rest.now) (length c.args.text.now) (words_from c.args.text.now c.loop-number.place.at) in
     search rules
 
-pub returns-in-err-literal : goal.returns-in-err-literal
-returns-in-err-literal c =
+pub returns-in_err-literal : goal.returns-in_err-literal
+returns-in_err-literal c =
     let step = clause_unfold c.args.known c.args.vars.now (take c.loop-number.n c.loop-number.rest) (length c.args.rest.now) (length c.args.text.now) (words_from c.args.text.now c.loop-number.place.at) in
     let long : length (take c.loop-number.n c.loop-number.rest) ≡ c.loop-number.n = length-take-le c.loop-number.n c.loop-number.rest (omega arith) in
-    let marked = (c.loop-number.invariant.4 c.in-ok-number.number.value).0 in
+    let marked = (c.loop-number.invariant.4 c.in_ok-number.number.value).0 in
     search rules
 
 pub loop-number-preserved : goal.loop-number-preserved
 loop-number-preserved c =
     let n = c.loop-number.n in
     let xs = c.loop-number.rest in
-    let l = c.in-ok-literal.literal in
-    let within = c.in-ok-literal.ensures.within in
+    let l = c.in_ok-literal.literal in
+    let within = c.in_ok-literal.ensures.within in
     let step = clause_unfold c.args.known c.args.vars.now (take n xs) (length c.args.rest.now) (length c.args.text.now) (words_from c.args.text.now c.loop-number.place.at) in
     let long : length (take n xs) ≡ n = length-take-le n xs (omega arith) in
-    let marked = (c.loop-number.invariant.4 c.in-ok-number.number.value).0 in
+    let marked = (c.loop-number.invariant.4 c.in_ok-number.number.value).0 in
     let put = take_more_set xs n l (omega arith) in
     let known : l.variable < length c.loop-number.marks = omega (arith, ap (λ k. k.variable) within.0) in (
       search rules,

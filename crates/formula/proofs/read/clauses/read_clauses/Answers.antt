@@ -7,30 +7,30 @@ use Rattle.formula.proofs.read.clauses.read_clauses.Goals as goal
 pub loop-j-init : goal.loop-j-init
 loop-j-init c = (search rules, omega arith, omega arith, refl, refl, length-replicate {A = ℕ} 65536 0, marks_zero 65536)
 
-pub returns-in-err-len : goal.returns-in-err-len
-returns-in-err-len c =
+pub returns-in_err-len : goal.returns-in_err-len
+returns-in_err-len c =
     let at = c.loop-j.at in
     let xs = c.loop-j.literals in
     let inside : at ≤ length xs = omega arith in
     let less : c.args.count - c.loop-j.j ≡ suc (c.args.count - (c.loop-j.j + 1)) = omega arith in
     let front = length-take-le at xs inside in
-    let part = length_part at xs c.read-clause.new.rest inside in
+    let part = length_part at xs c.read_clause.new.rest inside in
     search rules
 
 pub loop-j-preserved : goal.loop-j-preserved
 loop-j-preserved c =
     let at = c.loop-j.at in
     let j = c.loop-j.j in
-    let n = c.in-ok-len.len in
+    let n = c.in_ok-len.len in
     let xs = c.loop-j.literals in
-    let ys = c.read-clause.new.rest in
+    let ys = c.read_clause.new.rest in
     let inside : at ≤ length xs = omega arith in
     let less : c.args.count - j ≡ suc (c.args.count - (j + 1)) = omega arith in
     let front = length-take-le at xs inside in
     let part = length_part at xs ys inside in
     let put = take_put_rest at xs ys inside n in
-    let kept = c.in-ok-len.ensures.kept in
-    let marked = c.in-ok-len.ensures.marked in
+    let kept = c.in_ok-len.ensures.kept in
+    let marked = c.in_ok-len.ensures.marked in
     let span = take_more_set c.loop-j.clauses j (record { first = at; len = n }) (omega arith) in
     let size : length (take n ys) ≡ n = length-take-le n ys (omega arith) in (
       search rules,

@@ -4,13 +4,13 @@ use Rattle.formula.specs.Groups.{declared}
 use Rattle.formula.proofs.GroupLaws.{dependent_unfold}
 use Rattle.formula.proofs.read.groups.read_dependent.Goals as goal
 
-pub returns-in-err-counts : goal.returns-in-err-counts
-returns-in-err-counts c =
+pub returns-in_err-counts : goal.returns-in_err-counts
+returns-in_err-counts c =
     let e = dependent_unfold c.args.known (declared c.args.counts c.args.vars.now) c.args.text.now c.args.place.now.at in
     search rules
 
-pub returns-in-err-read-dependencies : goal.returns-in-err-read-dependencies
-returns-in-err-read-dependencies c =
+pub returns-in_err-read_dependencies : goal.returns-in_err-read_dependencies
+returns-in_err-read_dependencies c =
     let e = dependent_unfold c.args.known (declared c.args.counts c.args.vars.now) c.args.text.now c.args.place.now.at in
     search rules
 

@@ -4,7 +4,7 @@ use Rattle.formula.specs.Groups.{declared}
 use Rattle.formula.proofs.GroupLaws.{listed_unfold}
 use Rattle.formula.proofs.read.groups.read_listed.Goals as goal
 
-pub returns-in-err-counts : goal.returns-in-err-counts
-returns-in-err-counts c =
+pub returns-in_err-counts : goal.returns-in_err-counts
+returns-in_err-counts c =
     let e = listed_unfold c.args.known (declared c.loop-v.counts c.loop-v.vars) c.args.text.now c.loop-v.place.at c.args.quantifier in
     search rules

@@ -22,5 +22,5 @@ pub loop-left-preserved : goal.loop-left-preserved
 loop-left-preserved c =
     let made = c.loop-left.invariant.0 in (
       suc made,
-      building_more c.args.self.now c.loop-left.self c.store-head.new.self c.args.clause.now (c.loop-left.left - 1) c.loop-left.left c.loop-left.head made c.store-head.result c.block-from.result c.requires.sound c.loop-left.invariant.1 (omega arith) c.block-from.ensures.entries (omega arith) c.store-head.ensures.wrote c.store-head.ensures.taken,
+      building_more c.args.self.now c.loop-left.self c.store-head.new.self c.args.clause.now (c.loop-left.left - 1) c.loop-left.left c.loop-left.head made c.store-head.result c.block_from.result c.requires.sound c.loop-left.invariant.1 (omega arith) c.block_from.ensures.entries (omega arith) c.store-head.ensures.wrote c.store-head.ensures.taken,
     )

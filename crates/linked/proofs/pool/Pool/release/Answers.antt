@@ -5,16 +5,16 @@ use Rattle.linked.proofs.ReleaseLaws.{counted_apart, releasing_none, releasing_a
 use Rattle.linked.proofs.pool.Pool.release.Goals as goal
 
 pub loop-left-init : goal.loop-left-init
-loop-left-init c = ([], releasing_none c.args.self.now c.blocks-for-left.result c.args.clause.head c.requires.sound)
+loop-left-init c = ([], releasing_none c.args.self.now c.blocks_for-left.result c.args.clause.head c.requires.sound)
 
-pub give-back-place-requires : goal.give-back-place-requires
-give-back-place-requires c =
+pub give_back-place-requires : goal.give_back-place-requires
+give_back-place-requires c =
     let p = c.args.self.now in
-    let apart = counted_apart p c.args.clause c.blocks-for-left.result (omega arith) c.requires.apart in
+    let apart = counted_apart p c.args.clause c.blocks_for-left.result (omega arith) c.requires.apart in
     let q = c.loop-left.self in
-    let all = chain (vec_items p.blocks) c.blocks-for-left.result c.args.clause.head in
+    let all = chain (vec_items p.blocks) c.blocks_for-left.result c.args.clause.head in
     let is = c.loop-left.invariant.1 in
-    let long : length all ≡ c.blocks-for-left.result = length_chain (vec_items p.blocks) c.blocks-for-left.result c.args.clause.head in
+    let long : length all ≡ c.blocks_for-left.result = length_chain (vec_items p.blocks) c.blocks_for-left.result c.args.clause.head in
     let sum = is.sum in
     let size = is.returned.size in
     let same = is.returned.long in
@@ -28,12 +28,12 @@ give-back-place-requires c =
 pub loop-left-preserved : goal.loop-left-preserved
 loop-left-preserved c =
     let p = c.args.self.now in
-    let all = chain (vec_items p.blocks) c.blocks-for-left.result c.args.clause.head in
-    let apart = counted_apart p c.args.clause c.blocks-for-left.result (omega arith) c.requires.apart in (
+    let all = chain (vec_items p.blocks) c.blocks_for-left.result c.args.clause.head in
+    let apart = counted_apart p c.args.clause c.blocks_for-left.result (omega arith) c.requires.apart in (
       c.loop-left.place ∷ c.loop-left.invariant.0,
-      releasing_more p c.loop-left.self all c.loop-left.left c.loop-left.place c.loop-left.invariant.0 apart c.loop-left.invariant.1 (omega arith) c.give-back-place.new.self c.give-back-place.result c.give-back-place.ensures.returned c.give-back-place.ensures.next,
+      releasing_more p c.loop-left.self all c.loop-left.left c.loop-left.place c.loop-left.invariant.0 apart c.loop-left.invariant.1 (omega arith) c.give_back-place.new.self c.give_back-place.result c.give_back-place.ensures.returned c.give_back-place.ensures.next,
     )
 
 pub returns : goal.returns
 returns c =
-    releasing_all c.args.self.now c.args.clause c.blocks-for-left.result (omega arith) c.loop-left.self c.loop-left.left c.loop-left.place c.loop-left.invariant.0 (omega arith) c.loop-left.invariant.1
+    releasing_all c.args.self.now c.args.clause c.blocks_for-left.result (omega arith) c.loop-left.self c.loop-left.left c.loop-left.place c.loop-left.invariant.0 (omega arith) c.loop-left.invariant.1

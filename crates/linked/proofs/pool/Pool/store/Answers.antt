@@ -9,8 +9,8 @@ returns-then-self-eq0 c =
     let p = c.args.self.now in
     let x = c.args.block in
     record {
-      wrote = ap (λ l. get_or l c.len-fresh.result no_block) c.push-reserved.ensures.items ∙ get_or_push p.blocks.items x no_block c.len-fresh.result (omega arith);
-      taken = taken_fresh p _ x c.requires.sound (omega arith) p.blocks.ok.0 (omega arith) c.push-reserved.ensures.items c.push-reserved.ensures.len c.push-reserved.ensures.capacity refl c.len-fresh.result (omega arith);
+      wrote = ap (λ l. get_or l c.len-fresh.result no_block) c.push_reserved.ensures.items ∙ get_or_push p.blocks.items x no_block c.len-fresh.result (omega arith);
+      taken = taken_fresh p _ x c.requires.sound (omega arith) p.blocks.ok.0 (omega arith) c.push_reserved.ensures.items c.push_reserved.ensures.len c.push_reserved.ensures.capacity refl c.len-fresh.result (omega arith);
     }
 
 pub follower-next-requires : goal.follower-next-requires

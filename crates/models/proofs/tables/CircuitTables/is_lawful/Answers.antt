@@ -5,6 +5,6 @@ use Rattle.models.proofs.tables.CircuitTables.is_lawful.Goals as goal
 pub returns : goal.returns
 returns c =
     record {
-      is = c.audit-circuit.ensures.is;
-      held = λ e. left_held_circuit (circuit_rows c.args.self.now) (c.audit-circuit.ensures.lawful.0 e);
+      is = c.audit_circuit.ensures.is;
+      held = λ e. left_held_circuit (circuit_rows c.args.self.now) (c.audit_circuit.ensures.lawful.0 e);
     }

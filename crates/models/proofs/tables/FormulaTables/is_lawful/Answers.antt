@@ -5,6 +5,6 @@ use Rattle.models.proofs.tables.FormulaTables.is_lawful.Goals as goal
 pub returns : goal.returns
 returns c =
     record {
-      is = c.audit-formula.ensures.is;
-      held = λ e. left_held (formula_rows c.args.self.now) (c.audit-formula.ensures.lawful.0 e);
+      is = c.audit_formula.ensures.is;
+      held = λ e. left_held (formula_rows c.args.self.now) (c.audit_formula.ensures.lawful.0 e);
     }

@@ -8,26 +8,26 @@ returns-then-n-eq0 c =
     let out : (c.args.number ≡ 0) ⊎ (length was.ends.items < c.args.number) = elim c.then-n-eq0.either [ inl z ↦ inl z | inr h ↦ inr (omega arith) ] in
     record { is = sym (clause_none was.ends.items was.entries.items c.args.number out); short = omega arith }
 
-pub offset-bounds-as-slice-from : goal.offset-bounds-as-slice-from
-offset-bounds-as-slice-from c =
+pub offset_bounds-as_slice-from : goal.offset_bounds-as_slice-from
+offset_bounds-as_slice-from c =
     let was = c.args.self.now in
     let high = clause_high was.ends.items was.entries.items was.entries.len was.rise (c.args.number - 1) (omega arith) in
     omega arith
 
-pub slice-bounds-result-count-2 : goal.slice-bounds-result-count-2
-slice-bounds-result-count-2 c =
+pub slice_bounds-result-count-2 : goal.slice_bounds-result-count-2
+slice_bounds-result-count-2 c =
     let was = c.args.self.now in
     let low = clause_low was.ends.items was.entries.items was.entries.len was.rise c.args.number (omega arith) (omega arith) in
     omega arith
 
-pub slice-bounds-result-start-2 : goal.slice-bounds-result-start-2
-slice-bounds-result-start-2 c =
+pub slice_bounds-result-start-2 : goal.slice_bounds-result-start-2
+slice_bounds-result-start-2 c =
     let was = c.args.self.now in
     let low = clause_low was.ends.items was.entries.items was.entries.len was.rise c.args.number (omega arith) (omega arith) in
     omega arith
 
-pub slice-bounds-result-end-2 : goal.slice-bounds-result-end-2
-slice-bounds-result-end-2 c =
+pub slice_bounds-result-end-2 : goal.slice_bounds-result-end-2
+slice_bounds-result-end-2 c =
     let was = c.args.self.now in
     let high = clause_high was.ends.items was.entries.items was.entries.len was.rise c.args.number (omega arith) in
     omega arith
@@ -37,5 +37,5 @@ returns c =
     let was = c.args.self.now in
     let lies = clause_lies was.ends.items was.entries.items was.entries.len was.rise c.args.number (omega arith) (omega arith) in
     let high = clause_high was.ends.items was.entries.items was.entries.len was.rise c.args.number (omega arith) in
-    let long = length-take (c.end-to.result - c.end-from.result) (drop c.end-from.result c.as-slice-2.result.now) in
+    let long = length-take (c.end-to.result - c.end-from.result) (drop c.end-from.result c.as_slice-2.result.now) in
     record { is = (cc); short = omega arith }

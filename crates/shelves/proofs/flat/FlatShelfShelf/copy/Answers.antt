@@ -9,5 +9,5 @@ returns c =
     let source = c.clause-source.result.now in
     let same = c.clause-source.ensures.is in
     let long = ap length same in
-    let front = copied_front source row c.min-n.result c.min-n.ensures c.copy-from-slice.new.self (c.min-n.result - 0) (omega arith) c.copy-from-slice.ensures.after in
+    let front = copied_front source row c.min-n.result c.min-n.ensures c.copy_from_slice.new.self (c.min-n.result - 0) (omega arith) c.copy_from_slice.ensures.after in
     record { answer = omega arith; after = front ∙ ap (λ l. over (take (length row) l) row) same }

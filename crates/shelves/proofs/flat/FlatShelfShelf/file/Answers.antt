@@ -27,7 +27,7 @@ invariant-of-self-2 c =
     let was = c.args.self.now in
     let up : rising 0 (was.ends.items ++ c.len-3.result ∷ []) c.len-3.result ≡ true =
     rising_push 0 was.ends.items was.entries.len c.len-3.result (omega arith) was.rise in
-    let rise : rising 0 c.push-reserved.new.self.items c.append.new.row.len ≡ true = (cc) in
+    let rise : rising 0 c.push_reserved.new.self.items c.append.new.row.len ≡ true = (cc) in
     ((omega arith, omega arith), ((omega arith, omega arith), ((omega arith, omega arith), (rise, tt))))
 
 pub returns : goal.returns
@@ -41,5 +41,5 @@ returns c =
     let number : c.len-4.result ≡ length l + 1 = omega arith in
     let pushed : cut 0 (was.ends.items ++ c.len-3.result ∷ []) (was.entries.items ++ cs) ≡ l ++ cs ∷ [] =
     cut_push 0 was.ends.items was.entries.items cs was.entries.len c.len-3.result was.entries.ok.0 (omega arith) was.rise in
-    let list : cut 0 c.push-reserved.new.self.items c.append.new.row.items ≡ l ++ cs ∷ [] = (cc) in
+    let list : cut 0 c.push_reserved.new.self.items c.append.new.row.items ≡ l ++ cs ∷ [] = (cc) in
     record { answer = ap Some number ∙ sym (cond-true _ _ _ yes); after = list ∙ sym (cond-true _ _ _ yes); same = (refl, refl) }
