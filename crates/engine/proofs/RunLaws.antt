@@ -40,7 +40,7 @@ module _ {S F : Type 0} (side : SideGhosts S) (shelf : ShelfGhosts F) where
   taken_refused (Ok y) used f e = absurd (err_ok y.0 f e)
   taken_refused (Err h) used f e = let same : f ≡ h = cc in ap runs.refuses same
 
-  module _ (was is : Examiner S F) where
+  module _ (was is : Examiner S F side shelf) where
     pub opens_number : (x : Call) (n k : ℕ) (t : Ticket) → x ≡ call.Open n → k ≡ t.number → Opens side shelf n (Ok t) was is → Calls side shelf x (answer.Number k) was is
     opens_number x n k t i e o =
         subst (λ (y : Call). Calls side shelf y (answer.Number k) was is) (sym i)
@@ -78,7 +78,7 @@ module _ {S F : Type 0} (side : SideGhosts S) (shelf : ShelfGhosts F) where
           })
 
   -- one call more
-  pub runs_more : (n : ℕ) (calls : List Call) (row row_then : List Answer) (was mid is : Examiner S F) (d : Call) (a : Answer) → n < length calls → n < length row_then → RunsTo side shelf n calls row row_then was mid → Calls side shelf (get_or calls n d) a mid is → RunsTo side shelf (n + 1) calls row (set row_then n a) was is
+  pub runs_more : (n : ℕ) (calls : List Call) (row row_then : List Answer) (was mid is : Examiner S F side shelf) (d : Call) (a : Answer) → n < length calls → n < length row_then → RunsTo side shelf n calls row row_then was mid → Calls side shelf (get_or calls n d) a mid is → RunsTo side shelf (n + 1) calls row (set row_then n a) was is
   runs_more n calls row row_then was mid is d a inside room h k =
       let r : Rules = rules_of side shelf was in
       let s : State = state_of side shelf was in

@@ -108,7 +108,7 @@ module _ (s : State) where
   pub lowest_past : (g n m : ℕ) → n ≡ suc m → is_settled s g ≡ true → lowest_open s g n ≡ lowest_open s (g + 1) m
   lowest_past g n m h e = ap (lowest_open s g) h ∙ cond-true _ _ _ e
 
-module _ {S F : Type 0} (side : SideGhosts S) (shelf : ShelfGhosts F) (was is : Examiner S F) (outcome : Result (ℕ × State) Refusal) (r : Result ℕ Fault) where
+module _ {S F : Type 0} (side : SideGhosts S) (shelf : ShelfGhosts F) (was is : Examiner S F side shelf) (outcome : Result (ℕ × State) Refusal) (r : Result ℕ Fault) where
   -- a call that is refused
   pub refuses : (e : Refusal) → outcome ≡ Err e → answered r ≡ Err e → state_of side shelf is ≡ state_of side shelf was → is.side ≡ was.side → rules_of side shelf is ≡ rules_of side shelf was → Steps side shelf outcome r was is
   refuses e o a st sd ru =
@@ -128,7 +128,7 @@ module _ {S F : Type 0} (side : SideGhosts S) (shelf : ShelfGhosts F) (was is : 
       }
 
   -- a call that ends in another
-  pub goes_on : {mid : Examiner S F} {late : Result (ℕ × State) Refusal} → Steps side shelf late r mid is → outcome ≡ late → state_of side shelf mid ≡ state_of side shelf was → mid.side ≡ was.side → rules_of side shelf mid ≡ rules_of side shelf was → Steps side shelf outcome r was is
+  pub goes_on : {mid : Examiner S F side shelf} {late : Result (ℕ × State) Refusal} → Steps side shelf late r mid is → outcome ≡ late → state_of side shelf mid ≡ state_of side shelf was → mid.side ≡ was.side → rules_of side shelf mid ≡ rules_of side shelf was → Steps side shelf outcome r was is
   goes_on {mid} {late} t o st sd ru =
       record {
         answer = t.answer ∙ sym (ap (number_of side shelf) o);
@@ -142,7 +142,7 @@ module _ {S F : Type 0} (side : SideGhosts S) (shelf : ShelfGhosts F) where
       let with_both : ℕ → ℕ → Rules = λ m n. record { opening = side.opening s; admits = side.admits s; claim = side.claim s; goals = side.goals s; goal = side.goal s; says = side.says s; most = m; width = n } in
       ap (λ m. with_both m (shelf.W f)) e ∙ ap (λ n. with_both (shelf.K h) n) w
 
-  module _ (was is : Examiner S F) where
+  module _ (was is : Examiner S F side shelf) where
     pub opens : (n : ℕ) (t : Ticket) → is_open (state_of side shelf was) ≡ false → (u : Unit {0}) → Ok u ≡ side.opening was.side → t.number ≡ n → state_of side shelf is ≡ record { case = Some n; list = []; settled = replicate 16384 false } → is.side ≡ was.side → rules_of side shelf is ≡ rules_of side shelf was → Opens side shelf n (Ok t) was is
     opens n t o u e m st sd ru =
         let r : Rules = rules_of side shelf was in

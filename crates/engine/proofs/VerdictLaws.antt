@@ -34,19 +34,19 @@ module _ {S : Type 0} (side : SideGhosts S) (s : S) where
 
 module _ {S F : Type 0} (side : SideGhosts S) (shelf : ShelfGhosts F) where
   -- the slip of closing
-  pub slip_sound : (e : Examiner S F) (number : ℕ) (x : Slip) → x ≡ close_slip (rules_of side shelf e) (state_of side shelf e) number → SoundSlip side shelf e x
+  pub slip_sound : (e : Examiner S F side shelf) (number : ℕ) (x : Slip) → x ≡ close_slip (rules_of side shelf e) (state_of side shelf e) number → SoundSlip side shelf e x
   slip_sound e number x same list calls reached case clauses q =
       sound_closing side e.side (shelf.K e.shelf) (shelf.W e.shelf) list calls number case clauses
       (ap (λ (t : State). close_slip (rules_of side shelf e) t number) (sym reached) ∙ sym same ∙ q)
 
   -- the answer of one call
-  pub call_sound : (c : Call) (a : Answer) (was is : Examiner S F) → Calls side shelf c a was is → (list : List (List Entry)) (before : List runs.Call) → Reached side shelf list before was → AnswerHolds side was.side a
+  pub call_sound : (c : Call) (a : Answer) (was is : Examiner S F side shelf) → Calls side shelf c a was is → (list : List (List Entry)) (before : List runs.Call) → Reached side shelf list before was → AnswerHolds side was.side a
   call_sound c a was is h list before e x q =
       (sound_answers side was.side (shelf.K was.shelf) (shelf.W was.shelf) list before (called c ∷ [])).0 x
       (ap (λ (t : State). runs.answer (rules_of side shelf was) t (called c)) (sym e) ∙ sym h.answer ∙ ap told_answer q)
 
   -- one call more leads on
-  module _ (list : List (List Entry)) (calls : List runs.Call) (was is : Examiner S F) (at : Reached side shelf list calls was) where
+  module _ (list : List (List Entry)) (calls : List runs.Call) (was is : Examiner S F side shelf) (at : Reached side shelf list calls was) where
     reached_by : (c : runs.Call) → state_of side shelf is ≡ runs.next (rules_of side shelf was) (state_of side shelf was) c → Kept side shelf was is → Reached side shelf list (calls ++ c ∷ []) is
     reached_by c e kept =
         let r : Rules = rules_of side shelf was in
@@ -65,7 +65,7 @@ module _ {S F : Type 0} (side : SideGhosts S) (shelf : ShelfGhosts F) where
     pub reached_close : (n : ℕ) (x : Slip) → Closes side shelf n x was is → Reached side shelf list (calls ++ runs.closes n ∷ []) is
     reached_close n x o = reached_by (runs.closes n) o.state o.kept
 
-  module _ (n : ℕ) (calls : List Call) (row row_then : List Answer) (was is : Examiner S F) (h : RunsTo side shelf n calls row row_then was is) where
+  module _ (n : ℕ) (calls : List Call) (row row_then : List Answer) (was is : Examiner S F side shelf) (h : RunsTo side shelf n calls row row_then was is) where
     -- the calls that were made, behind those before
     run_reached : (list : List (List Entry)) (before : List runs.Call) → Reached side shelf list before was → Reached side shelf list (before ++ take n (map called calls)) is
     run_reached list before e =

@@ -25,13 +25,13 @@ told_answer (answer.Ended s) = runs.ends s
 
 module _ {S F : Type 0} (side : SideGhosts S) (shelf : ShelfGhosts F) where
   -- what one call answers and leaves is the plain case's
-  pub record Calls (c : Call) (r : Answer) (was is : Examiner S F) : Type 0 where
+  pub record Calls (c : Call) (r : Answer) (was is : Examiner S F side shelf) : Type 0 where
     pub answer : told_answer r ≡ runs.answer (rules_of side shelf was) (state_of side shelf was) (called c)
     pub state : state_of side shelf is ≡ runs.next (rules_of side shelf was) (state_of side shelf was) (called c)
     pub kept : Kept side shelf was is
 
   -- the first n calls: their answers stand at the front of the row, the rest of it stays, and the state is the run's
-  pub record RunsTo (n : ℕ) (calls : List Call) (row row_then : List Answer) (was is : Examiner S F) : Type 0 where
+  pub record RunsTo (n : ℕ) (calls : List Call) (row row_then : List Answer) (was is : Examiner S F side shelf) : Type 0 where
     pub answers : map told_answer (take n row_then) ≡ runs.answers (rules_of side shelf was) (state_of side shelf was) (take n (map called calls))
     pub rest : drop n row_then ≡ drop n row
     pub state : state_of side shelf is ≡ runs.run (rules_of side shelf was) (state_of side shelf was) (take n (map called calls))

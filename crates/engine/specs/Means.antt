@@ -23,14 +23,14 @@ module _ {S F : Type 0} (side : SideGhosts S) (shelf : ShelfGhosts F) where
         width = shelf.W f;
       }
 
-  abbrev pub rules_of : Examiner S F → Rules
+  abbrev pub rules_of : Examiner S F side shelf → Rules
   rules_of e = rules e.side e.shelf
 
-  abbrev pub state_of : Examiner S F → State
+  abbrev pub state_of : Examiner S F side shelf → State
   state_of e = record { case = e.case; list = shelf.list e.shelf; settled = vec_items e.settled }
 
   -- the side and the shelf's two numbers stay
-  pub record Kept (was is : Examiner S F) : Type 0 where
+  pub record Kept (was is : Examiner S F side shelf) : Type 0 where
     pub side_same : is.side ≡ was.side
     pub rules_same : rules_of is ≡ rules_of was
 
@@ -44,7 +44,7 @@ module _ {S F : Type 0} (side : SideGhosts S) (shelf : ShelfGhosts F) where
   after s (Err e) = s
 
   -- what a step answers and leaves is the plain case's
-  pub record Steps (outcome : Result (ℕ × State) Refusal) (r : Result ℕ Fault) (was is : Examiner S F) : Type 0 where
+  pub record Steps (outcome : Result (ℕ × State) Refusal) (r : Result ℕ Fault) (was is : Examiner S F side shelf) : Type 0 where
     pub answer : answered r ≡ number_of outcome
     pub state : state_of is ≡ after (state_of was) outcome
     pub kept : Kept was is
@@ -62,18 +62,18 @@ module _ {S F : Type 0} (side : SideGhosts S) (shelf : ShelfGhosts F) where
   opened_state was (Err e) = was
 
   -- what opening answers and leaves is the plain case's
-  pub record Opens (n : ℕ) (r : Result Ticket Fault) (was is : Examiner S F) : Type 0 where
+  pub record Opens (n : ℕ) (r : Result Ticket Fault) (was is : Examiner S F side shelf) : Type 0 where
     pub answer : ticket_number r ≡ opened_number (opened (rules_of was) (state_of was) n) n
     pub state : state_of is ≡ opened_state (state_of was) (opened (rules_of was) (state_of was) n)
     pub kept : Kept was is
 
   -- what closing answers and leaves is the plain case's
-  pub record Closes (n : ℕ) (r : Slip) (was is : Examiner S F) : Type 0 where
+  pub record Closes (n : ℕ) (r : Slip) (was is : Examiner S F side shelf) : Type 0 where
     pub answer : r ≡ close_slip (rules_of was) (state_of was) n
     pub state : state_of is ≡ closed (state_of was) n
     pub kept : Kept was is
 
   -- what taking a record answers and leaves is the plain case's
-  pub record Takes (bytes : List ℕ) (r : Result ℕ Fault) (used : ℕ) (was is : Examiner S F) : Type 0 where
+  pub record Takes (bytes : List ℕ) (r : Result ℕ Fault) (used : ℕ) (was is : Examiner S F side shelf) : Type 0 where
     pub steps : Steps (take_result (rules_of was) (state_of was) bytes) r was is
     pub used_bytes : used ≡ take_used (rules_of was) (state_of was) bytes

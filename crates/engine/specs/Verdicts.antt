@@ -32,16 +32,16 @@ module _ {S : Type 0} (side : SideGhosts S) where
 
 module _ {S F : Type 0} (side : SideGhosts S) (shelf : ShelfGhosts F) where
   -- calls that lead from the making, with this list on the shelf, to what the examiner holds
-  abbrev pub Reached : List (List Entry) → List runs.Call → Examiner S F → Type 0
+  abbrev pub Reached : List (List Entry) → List runs.Call → Examiner S F side shelf → Type 0
   Reached list calls e = state_of side shelf e ≡ runs.run (rules_of side shelf e) (start list) calls
 
   -- whatever calls led to it, a slip of this examiner holds
-  abbrev pub SoundSlip : Examiner S F → Slip → Type 0
+  abbrev pub SoundSlip : Examiner S F side shelf → Slip → Type 0
   SoundSlip e x = (list : List (List Entry)) (calls : List runs.Call) → Reached list calls e → SlipHolds side e.side x
 
   -- Of n more calls, after those that led to an examiner: the slips among their answers hold, and so does the slip
   -- of closing then; and the whole run is lawful.
-  pub record SoundRun (n : ℕ) (calls : List Call) (row : List Answer) (was is : Examiner S F) (list : List (List Entry)) (before : List runs.Call) : Type 0 where
+  pub record SoundRun (n : ℕ) (calls : List Call) (row : List Answer) (was is : Examiner S F side shelf) (list : List (List Entry)) (before : List runs.Call) : Type 0 where
     pub reached : Reached list (before ++ take n (map called calls)) is
     pub answers : All (AnswerHolds side was.side) (take n row)
     pub closing : (number : ℕ) → SlipHolds side is.side (close_slip (rules_of side shelf is) (state_of side shelf is) number)

@@ -25,7 +25,7 @@ module _ {S F : Type 0} (side : SideGhosts S) (shelf : ShelfGhosts F) where
   opened_is (Err f) n k e = absurd (err_ok k f (sym e))
 
   -- A report of an examiner that was opened, took the records and is about to be closed.
-  pub record Reported (case : ℕ) (proof : List ℕ) (ticket : Ticket) (p : Report) (was first last : Examiner S F) : Type 0 where
+  pub record Reported (case : ℕ) (proof : List ℕ) (ticket : Ticket) (p : Report) (was first last : Examiner S F side shelf) : Type 0 where
     pub opening : Opens side shelf case (Ok ticket) was first
     pub taking : TakesAll side shelf proof p.taken first last
     pub clauses : p.clauses ≡ length (shelf.list last.shelf)
@@ -35,7 +35,7 @@ module _ {S F : Type 0} (side : SideGhosts S) (shelf : ShelfGhosts F) where
     pub slip : p.slip ≡ close_slip (rules_of side shelf last) (state_of side shelf last) ticket.number
     pub sound : SoundSlip side shelf last p.slip
 
-  module _ (case : ℕ) (proof : List ℕ) (ticket : Ticket) (p : Report) (was first last : Examiner S F) (h : Reported case proof ticket p was first last) where
+  module _ (case : ℕ) (proof : List ℕ) (ticket : Ticket) (p : Report) (was first last : Examiner S F side shelf) (h : Reported case proof ticket p was first last) where
     abbrev r : Rules
     r = rules_of side shelf was
 
@@ -84,7 +84,7 @@ module _ {S F : Type 0} (side : SideGhosts S) (shelf : ShelfGhosts F) where
         }
 
   -- a replay from the making on
-  pub replays_made : (case : ℕ) (proof : List ℕ) (o : Result Report Fault) (e : Examiner S F) (s : S) (f : F) → rules_of side shelf e ≡ rules side shelf s f → state_of side shelf e ≡ start (shelf.list f) → e.side ≡ s → Replays side shelf case proof o e → (told_outcome o ≡ replayed (rules side shelf s f) case proof) × ReportHolds side s o
+  pub replays_made : (case : ℕ) (proof : List ℕ) (o : Result Report Fault) (e : Examiner S F side shelf) (s : S) (f : F) → rules_of side shelf e ≡ rules side shelf s f → state_of side shelf e ≡ start (shelf.list f) → e.side ≡ s → Replays side shelf case proof o e → (told_outcome o ≡ replayed (rules side shelf s f) case proof) × ReportHolds side s o
   replays_made case proof o e s f ru st sd h = (
     h.outcome ∙ ap (λ (q : Rules). replayed_from q (state_of side shelf e) case proof) ru ∙ ap (λ (x : State). replayed_from (rules side shelf s f) x case proof) st,
     subst (λ (x : S). ReportHolds side x o) sd (h.holds (shelf.list f) [] st),

@@ -15,7 +15,7 @@ use Rattle.replay.proofs.TurnLaws.{used_some, one_more, refused_next}
 
 module _ {S F : Type 0} (side : SideGhosts S) (shelf : ShelfGhosts F) where
   -- After n records the bytes that are left give what the whole proof gives; each record used a byte.
-  pub record Goes_on (proof rest : List ℕ) (n : ℕ) (was is : Examiner S F) : Type 0 where
+  pub record Goes_on (proof rest : List ℕ) (n : ℕ) (was is : Examiner S F side shelf) : Type 0 where
     pub all : take_turns (length rest) (rules_of side shelf was) (state_of side shelf is) n (length proof - length rest) rest ≡ take_all (rules_of side shelf was) (state_of side shelf was) proof
     pub kept : Kept side shelf was is
     pub few : n + length rest ≤ length proof
@@ -28,7 +28,7 @@ module _ {S F : Type 0} (side : SideGhosts S) (shelf : ShelfGhosts F) where
   refused_is (Ok x) f e = absurd (err_ok x.0 f e)
   refused_is (Err h) f e = let same : h ≡ f = cc in ap Err same
 
-  module _ (rest : List ℕ) (y : Result ℕ Fault) (used : ℕ) (mid is : Examiner S F) (t : Takes side shelf rest y used mid is) where
+  module _ (rest : List ℕ) (y : Result ℕ Fault) (used : ℕ) (mid is : Examiner S F side shelf) (t : Takes side shelf rest y used mid is) where
     abbrev r : Rules
     r = rules_of side shelf mid
 
@@ -45,7 +45,7 @@ module _ {S F : Type 0} (side : SideGhosts S) (shelf : ShelfGhosts F) where
         let uses = used_some rest r s x.0 x.1 in
         (omega (arith, t.used_bytes), omega (arith, t.used_bytes))
 
-    module _ (proof : List ℕ) (n : ℕ) (was : Examiner S F) (some : eqb (length rest) 0 ≡ false) (h : Goes_on proof rest n was mid) where
+    module _ (proof : List ℕ) (n : ℕ) (was : Examiner S F side shelf) (some : eqb (length rest) 0 ≡ false) (h : Goes_on proof rest n was mid) where
       kept_on : Kept side shelf was is
       kept_on =
           record { side_same = t.steps.kept.side_same ∙ h.kept.side_same; rules_same = t.steps.kept.rules_same ∙ h.kept.rules_same }

@@ -41,11 +41,11 @@ ReportHolds side s (Err f) = Unit {0}
 
 module _ {S F : Type 0} (side : SideGhosts S) (shelf : ShelfGhosts F) where
   -- what was taken, with the state then, is the plain case's
-  pub record TakesAll (proof : List ℕ) (t : Taken) (was is : Examiner S F) : Type 0 where
+  pub record TakesAll (proof : List ℕ) (t : Taken) (was is : Examiner S F side shelf) : Type 0 where
     pub all : taken (state_of side shelf is) t.records t.bytes (told_fault t.refusal) ≡ take_all (rules_of side shelf was) (state_of side shelf was) proof
     pub kept : Kept side shelf was is
 
   -- The outcome is the plain case's; and whatever calls led to the examiner, a slip in it holds.
-  pub record Replays (case : ℕ) (proof : List ℕ) (o : Result Report Fault) (was : Examiner S F) : Type 0 where
+  pub record Replays (case : ℕ) (proof : List ℕ) (o : Result Report Fault) (was : Examiner S F side shelf) : Type 0 where
     pub outcome : told_outcome o ≡ replayed_from (rules_of side shelf was) (state_of side shelf was) case proof
     pub holds : (list : List (List Entry)) (calls : List Call) → Reached side shelf list calls was → ReportHolds side was.side o
