@@ -15,7 +15,7 @@ use Rattle.replay.proofs.TurnLaws.{used_some, one_more, refused_next}
 
 module _ {S F : Type 0} (side : SideGhosts S) (shelf : ShelfGhosts F) where
   -- After n records the bytes that are left give what the whole proof gives; each record used a byte.
-  pub record Goes_on (proof rest : List ℕ) (n : ℕ) (was is : Examiner S F side shelf) : Type 0 where
+  pub record GoesOn (proof rest : List ℕ) (n : ℕ) (was is : Examiner S F side shelf) : Type 0 where
     pub all : take_turns (length rest) (rules_of side shelf was) (state_of side shelf is) n (length proof - length rest) rest ≡ take_all (rules_of side shelf was) (state_of side shelf was) proof
     pub kept : Kept side shelf was is
     pub few : n + length rest ≤ length proof
@@ -45,7 +45,7 @@ module _ {S F : Type 0} (side : SideGhosts S) (shelf : ShelfGhosts F) where
         let uses = used_some rest r s x.0 x.1 in
         (omega (arith, t.used_bytes), omega (arith, t.used_bytes))
 
-    module _ (proof : List ℕ) (n : ℕ) (was : Examiner S F side shelf) (some : eqb (length rest) 0 ≡ false) (h : Goes_on proof rest n was mid) where
+    module _ (proof : List ℕ) (n : ℕ) (was : Examiner S F side shelf) (some : eqb (length rest) 0 ≡ false) (h : GoesOn proof rest n was mid) where
       kept_on : Kept side shelf was is
       kept_on =
           record { side_same = t.steps.kept.side_same ∙ h.kept.side_same; rules_same = t.steps.kept.rules_same ∙ h.kept.rules_same }
@@ -55,7 +55,7 @@ module _ {S F : Type 0} (side : SideGhosts S) (shelf : ShelfGhosts F) where
           ap (λ (q : Rules). take_turns (length rest) q s n (length proof - length rest) rest) h.kept.rules_same ∙ h.all
 
       -- an accepted record leads on
-      pub taken_more : (k : ℕ) → y ≡ Ok k → Goes_on proof (drop used rest) (n + 1) was is
+      pub taken_more : (k : ℕ) → y ≡ Ok k → GoesOn proof (drop used rest) (n + 1) was is
       taken_more k e =
           let x = accepted k e in
           let uses = taken_some k e in

@@ -8,7 +8,7 @@ use Rattle.engine.proofs.examine.examine.Goals as goal
 pub returns-in_err-examiner : goal.returns-in_err-examiner
 returns-in_err-examiner g c =
     record {
-      examined = MatchResult-from_err c.from-residual.result _ _ c.from-residual.ensures.0 (λ _. refl);
+      examined = MatchResult-from_err c.from_residual.result _ _ c.from_residual.ensures.0 (λ _. refl);
       lawful = all_runs_lawful (rules g.S.Side g.F.Shelf c.args.side c.args.shelf) (g.S.Side.few c.args.side);
     }
 

@@ -7,8 +7,8 @@ use Rattle.replay.proofs.replay.replay.Goals as goal
 pub returns-in_err-examiner : goal.returns-in_err-examiner
 returns-in_err-examiner g c =
     record {
-      is = IfOk-from_err c.from-residual.result _ c.from-residual.ensures.0;
-      holds = IfOk-from_err c.from-residual.result _ c.from-residual.ensures.0;
+      is = IfOk-from_err c.from_residual.result _ c.from_residual.ensures.0;
+      holds = IfOk-from_err c.from_residual.result _ c.from_residual.ensures.0;
       lawful = all_runs_lawful (rules g.S.Side g.F.Shelf c.args.side c.args.shelf) (g.S.Side.few c.args.side);
     }
 

@@ -1,6 +1,6 @@
 use Rattle.std.proofs.Common.{ℕ, ◌+◌, ◌≤◌, List, length, sym, subst, arith, rules}
 use Rattle.std.proofs.lemmas.List.{length-drop, take_rest}
-use Rattle.replay.proofs.TakeLaws.{Goes_on, taken_some, taken_more, taken_refused}
+use Rattle.replay.proofs.TakeLaws.{GoesOn, taken_some, taken_more, taken_refused}
 use Rattle.replay.proofs.replay.take_all.Given as given
 use Rattle.replay.proofs.replay.take_all.Goals as goal
 use Rattle.replay.proofs.replay.take_all.Goals.{In-default}
@@ -28,6 +28,6 @@ loop-rest-smaller g c =
 
 pub loop-rest-preserved : goal.loop-rest-preserved
 loop-rest-preserved g c =
-    subst (λ (l : List ℕ). Goes_on g.S.Side g.F.Shelf c.args.proof.now l (c.loop-rest.records + 1) c.args.examiner.now c.take-taken.new.self) (sym (take_rest c.loop-rest.rest.now c.take-taken.result.1))
+    subst (λ (l : List ℕ). GoesOn g.S.Side g.F.Shelf c.args.proof.now l (c.loop-rest.records + 1) c.args.examiner.now c.take-taken.new.self) (sym (take_rest c.loop-rest.rest.now c.take-taken.result.1))
     (taken_more g.S.Side g.F.Shelf c.loop-rest.rest.now c.take-taken.result.0 c.take-taken.result.1 c.loop-rest.examiner c.take-taken.new.self c.take-taken.ensures
     c.args.proof.now c.loop-rest.records c.args.examiner.now (sym c.loop-rest-test.ensures) c.loop-rest.invariant c.in_default.field-0 c.in_default.is)

@@ -13,8 +13,8 @@ use Rattle.tasks.proofs.task.check_falsity.Goals.{After-check_case}
 
 pub returns-in_err-rows : goal.returns-in_err-rows
 returns-in_err-rows g c =
-    let failed = c.from-residual.ensures.0 in
-    let r = c.from-residual.result in
+    let failed = c.from_residual.ensures.0 in
+    let r = c.from_residual.result in
     record {
       is = IfOk-from_err r (FalsityEnds c.args.proof.now c.args.case (g.F.Shelf.K c.args.shelf) (g.F.Shelf.W c.args.shelf) c.args.formula.now) failed;
       holds = IfOk-from_err r (FalsityMeans c.args.formula.now) failed;

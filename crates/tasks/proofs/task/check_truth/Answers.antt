@@ -14,8 +14,8 @@ use Rattle.tasks.proofs.task.check_truth.Goals.{After-check_case}
 
 pub returns-in_err-rows : goal.returns-in_err-rows
 returns-in_err-rows g c =
-    let failed = c.from-residual.ensures.0 in
-    let r = c.from-residual.result in
+    let failed = c.from_residual.ensures.0 in
+    let r = c.from_residual.result in
     record {
       is = IfOk-from_err r (TruthEnds c.args.proof.now c.args.case (g.F.Shelf.K c.args.shelf) (g.F.Shelf.W c.args.shelf) c.args.formula.now c.args.circuit.now) failed;
       holds = IfOk-from_err r (TruthMeans c.args.formula.now c.args.circuit.now) failed;
@@ -33,8 +33,8 @@ returns-in-Err g c =
 
 pub returns-in_err-circuits : goal.returns-in_err-circuits
 returns-in_err-circuits g c =
-    let failed = c.from-residual-in_err-circuits.ensures.0 in
-    let r = c.from-residual-in_err-circuits.result in
+    let failed = c.from_residual-in_err-circuits.ensures.0 in
+    let r = c.from_residual-in_err-circuits.result in
     record {
       is = IfOk-from_err r (TruthEnds c.args.proof.now c.args.case (g.F.Shelf.K c.args.shelf) (g.F.Shelf.W c.args.shelf) c.args.formula.now c.args.circuit.now) failed;
       holds = IfOk-from_err r (TruthMeans c.args.formula.now c.args.circuit.now) failed;

@@ -8,8 +8,8 @@ use Rattle.texts.proofs.read.circuit_rows.Goals as goal
 
 pub returns-in_err-gates : goal.returns-in_err-gates
 returns-in_err-gates c =
-    let failed = c.from-residual-in_err-gates.ensures.0 in
-    let r = c.from-residual-in_err-gates.result in
+    let failed = c.from_residual-in_err-gates.ensures.0 in
+    let r = c.from_residual-in_err-gates.result in
     record { is = IfOk-from_err r _ failed; spelt = IfOk-from_err r _ failed }
 
 pub returns-in-Ok : goal.returns-in-Ok

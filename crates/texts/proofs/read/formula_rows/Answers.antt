@@ -10,14 +10,14 @@ use Rattle.texts.proofs.read.formula_rows.Goals.{After-read_formula}
 
 pub returns-in_err-clauses : goal.returns-in_err-clauses
 returns-in_err-clauses c =
-    let failed = c.from-residual-in_err-clauses.ensures.0 in
-    let r = c.from-residual-in_err-clauses.result in
+    let failed = c.from_residual-in_err-clauses.ensures.0 in
+    let r = c.from_residual-in_err-clauses.result in
     record { is = IfOk-from_err r _ failed; spelt = IfOk-from_err r _ failed }
 
 pub returns-in_err-literals : goal.returns-in_err-literals
 returns-in_err-literals c =
-    let failed = c.from-residual-in_err-literals.ensures.0 in
-    let r = c.from-residual-in_err-literals.result in
+    let failed = c.from_residual-in_err-literals.ensures.0 in
+    let r = c.from_residual-in_err-literals.result in
     record { is = IfOk-from_err r _ failed; spelt = IfOk-from_err r _ failed }
 
 -- the tables that the reader was lent, before and after

@@ -15,11 +15,11 @@ returns-then-b-lt48 c =
     in
     search rules
 
-pub overflow-mul-n : goal.overflow-mul-n
-overflow-mul-n c = let few = few_digits c.loop-b.n c.loop-b.b-index c.loop-b.invariant.2 (omega arith) in omega arith
+pub overflow_mul-n : goal.overflow_mul-n
+overflow_mul-n c = let few = few_digits c.loop-b.n c.loop-b.b-index c.loop-b.invariant.2 (omega arith) in omega arith
 
-pub overflow-add-n : goal.overflow-add-n
-overflow-add-n c = let few = few_digits c.loop-b.n c.loop-b.b-index c.loop-b.invariant.2 (omega arith) in omega arith
+pub overflow_add-n : goal.overflow_add-n
+overflow_add-n c = let few = few_digits c.loop-b.n c.loop-b.b-index c.loop-b.invariant.2 (omega arith) in omega arith
 
 pub loop-b-preserved : goal.loop-b-preserved
 loop-b-preserved c = (

@@ -4,8 +4,8 @@ use Rattle.engine.specs.Shelves.{entries_in}
 use Rattle.engine.proofs.QuestionLaws.{entries_next}
 use Rattle.engine.proofs.examiner.questions.entries_on.Goals as goal
 
-pub overflow-add-total : goal.overflow-add-total
-overflow-add-total g c =
+pub overflow_add-total : goal.overflow_add-total
+overflow_add-total g c =
     let inside : c.loop-i.i < length (g.F.Shelf.list c.args.shelf.now) = omega arith in
     omega (arith, entries_next (g.F.Shelf.list c.args.shelf.now) c.loop-i.i inside, g.F.Shelf.fits c.args.shelf.now)
 

@@ -4,8 +4,8 @@ use Rattle.linked.specs.Chains.{clauses_of, chains, times}
 use Rattle.linked.proofs.ChainLaws.{below_no}
 use Rattle.linked.proofs.shelf.LinkedShelf.new.Goals as goal
 
-pub invariant-of-result : goal.invariant-of-result
-invariant-of-result c =
+pub invariant_of-result : goal.invariant_of-result
+invariant_of-result c =
     let rows = c.truncate.new.self.items in
     let blocks = c.truncate-2.new.self.items in
     let none : rows ≡ [] = c.truncate.ensures.items in

@@ -17,15 +17,15 @@ release-requires c =
       few = last_few p was.index.items rows r items was.apart was.whole;
     }
 
-pub overflow-sub-self : goal.overflow-sub-self
-overflow-sub-self c =
+pub overflow_sub-self : goal.overflow_sub-self
+overflow_sub-self c =
     let was = c.args.self.now in
     let total = last_entries was.pool was.index.items c.pop.new.self.items c.in-Some.last c.in-Some.ensures.items was.apart in
     let sum = was.sum in
     omega arith
 
-pub invariant-of-self : goal.invariant-of-self
-invariant-of-self c =
+pub invariant_of-self : goal.invariant_of-self
+invariant_of-self c =
     let was = c.args.self.now in
     let p = was.pool in
     let q = c.release.new.self in

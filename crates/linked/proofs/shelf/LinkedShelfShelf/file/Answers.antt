@@ -40,8 +40,8 @@ keep-kept-requires c =
       room = omega arith;
     }
 
-pub invariant-of-self : goal.invariant-of-self
-invariant-of-self c =
+pub invariant_of-self : goal.invariant_of-self
+invariant_of-self c =
     let was = c.args.self.now in
     let p = was.pool in
     let q = c.keep-kept.new.self in

@@ -22,8 +22,8 @@ returns-then-clause-self c =
     room_no (cut 0 was.ends.items was.entries.items) was.clauses was.width was.ends.len was.entries.len cs (cut_count was.ends.items was.entries.items was.ends.len was.ends.ok.0) (cut_entries was.ends.items was.entries.items was.entries.len was.entries.ok.0 was.rise) (inr (omega arith)) in
     record { answer = sym (cond-false _ _ _ no); after = sym (cond-false _ _ _ no); same = (refl, refl) }
 
-pub invariant-of-self-2 : goal.invariant-of-self-2
-invariant-of-self-2 c =
+pub invariant_of-self-2 : goal.invariant_of-self-2
+invariant_of-self-2 c =
     let was = c.args.self.now in
     let up : rising 0 (was.ends.items ++ c.len-3.result ∷ []) c.len-3.result ≡ true =
     rising_push 0 was.ends.items was.entries.len c.len-3.result (omega arith) was.rise in
