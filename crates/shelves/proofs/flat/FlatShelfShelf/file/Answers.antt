@@ -28,7 +28,7 @@ invariant_of-self-2 c =
     let up : rising 0 (was.ends.items ++ c.len-3.result ∷ []) c.len-3.result ≡ true =
     rising_push 0 was.ends.items was.entries.len c.len-3.result (omega arith) was.rise in
     let rise : rising 0 c.push_reserved.new.self.items c.append.new.row.len ≡ true = (cc) in
-    ((omega arith, omega arith), ((omega arith, omega arith), ((omega arith, omega arith), (rise, tt))))
+    record { limits = (omega arith, omega arith); room = (omega arith, omega arith); within = (omega arith, omega arith); rise = rise }
 
 pub returns : goal.returns
 returns c =
