@@ -3,10 +3,10 @@ use Rattle.std.proofs.lemmas.List.{length-drop, take_rest}
 use Rattle.replay.proofs.TakeLaws.{GoesOn, taken_some, taken_more, taken_refused}
 use Rattle.replay.proofs.replay.take_all.Given as given
 use Rattle.replay.proofs.replay.take_all.Goals as goal
-use Rattle.replay.proofs.replay.take_all.Goals.{In-default}
+use Rattle.replay.proofs.replay.take_all.Goals.{In_default}
 
 -- the accepted record used some of the bytes
-uses : (g : given.Over) (c : In-default g) → (1 ≤ c.take-taken.result.1) × (c.take-taken.result.1 ≤ length c.loop-rest.rest.now)
+uses : (g : given.Over) (c : In_default g) → (1 ≤ c.take-taken.result.1) × (c.take-taken.result.1 ≤ length c.loop-rest.rest.now)
 uses g c =
     taken_some g.S.Side g.F.Shelf c.loop-rest.rest.now c.take-taken.result.0 c.take-taken.result.1 c.loop-rest.examiner c.take-taken.new.self c.take-taken.ensures c.in_default.field-0 c.in_default.is
 
@@ -23,7 +23,7 @@ slice_bounds-rest-start g c = let some = uses g c in search rules
 
 pub loop-rest-smaller : goal.loop-rest-smaller
 loop-rest-smaller g c =
-    let some = uses g (goal.at.loop-rest-smaller g c).In-default in
+    let some = uses g (goal.at.loop-rest-smaller g c).In_default in
     rw take_rest (omega (arith, length-drop c.take-taken.result.1 c.loop-rest.rest.now))
 
 pub loop-rest-preserved : goal.loop-rest-preserved
