@@ -7,6 +7,6 @@ use Rattle.sides.proofs.falsity.FalsitySideSide.copy_goal.Goals as goal
 -- the empty clause is copied by leaving the row as it is
 pub returns : goal.returns
 returns c =
-    let row : List Entry = c.args.-row.now in
+    let row : List Entry = c.args._row.now in
     let none : take {A = Entry} (length row) [] ≡ [] = take_all (length row) [] (omega arith) in
     record { answer = omega arith; after = sym (ap (λ (x : List Entry). over x row) none) }
