@@ -4,4 +4,4 @@ use Rattle.linked.specs.Moves.{blocks_of}
 use Rattle.linked.proofs.pool.Pool.entry.Given as goal
 
 abbrev pub invariant-loop-k : goal.invariant-loop-k
-invariant-loop-k l = (l.place ≡ hop (blocks_of l.self) l.initial.place l.-k) × (l.place < 2 ^ 32)
+invariant-loop-k l = (l.place ≡ hop (blocks_of l.self) l.initial.place l._k) × (l.place < 2 ^ 32)

@@ -16,8 +16,8 @@ returns-then-self-eq0 c =
 pub follower-next-requires : goal.follower-next-requires
 follower-next-requires c = free_below c.args.self.now c.requires.sound (omega arith)
 
-pub index-mut-requires : goal.index-mut-requires
-index-mut-requires c = free_below c.args.self.now c.requires.sound (omega arith)
+pub index_mut-requires : goal.index_mut-requires
+index_mut-requires c = free_below c.args.self.now c.requires.sound (omega arith)
 
 pub returns : goal.returns
 returns c =

@@ -39,19 +39,12 @@ invariant_of-self c =
     let cap = c.in-Some.ensures.capacity in
     let len = c.in-Some.ensures.len in
     let room = back.room in
-    let long = back.long in (
-      (omega arith, omega arith),
-      (
-        (omega arith, omega arith),
-        (
-          (omega arith, omega arith, omega arith),
-          (
-            omega arith,
-            (
-              off_apart p was.index.items rows r items was.apart q back,
-              (off_whole p was.index.items rows r items was.apart q back was.whole, tt),
-            ),
-          ),
-        ),
-      ),
-    )
+    let long = back.long in
+    record {
+      limits = (omega arith, omega arith);
+      room = (omega arith, omega arith);
+      within = (omega arith, omega arith, omega arith);
+      sum = omega arith;
+      apart = off_apart p was.index.items rows r items was.apart q back;
+      whole = off_whole p was.index.items rows r items was.apart q back was.whole;
+    }

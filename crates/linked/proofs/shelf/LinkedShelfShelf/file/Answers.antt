@@ -57,22 +57,15 @@ invariant_of-self c =
     let more = entries_push (clauses_of p.blocks.items rows) cs in
     let sum = was.sum in
     let cap = taken.room in
-    let small = taken.sound.small in (
-      (omega arith, omega arith),
-      (
-        (omega arith, omega arith),
-        (
-          (omega arith, omega arith, omega arith),
-          (
-            omega arith,
-            (
-              filed_apart p rows was.apart q cs r all items taken is,
-              (filed_whole p rows was.apart q cs r all items taken is was.whole, tt),
-            ),
-          ),
-        ),
-      ),
-    )
+    let small = taken.sound.small in
+    record {
+      limits = (omega arith, omega arith);
+      room = (omega arith, omega arith);
+      within = (omega arith, omega arith, omega arith);
+      sum = omega arith;
+      apart = filed_apart p rows was.apart q cs r all items taken is;
+      whole = filed_whole p rows was.apart q cs r all items taken is was.whole;
+    }
 
 pub returns : goal.returns
 returns c =
