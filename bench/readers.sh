@@ -1,7 +1,7 @@
 #!/usr/bin/env bash
 # How fast `jumpweft formula` reads: MB (1,000,000 bytes) per second over formulas of 1, 4 and 16 MiB.
 #
-#   rt check jumpweft && bench/readers.sh [RUNS]      RUNS: runs of each, of which the fastest counts (5)
+#   rt ci && bench/readers.sh [RUNS]      RUNS: runs of each, of which the fastest counts (5)
 #
 # A formula has at most 16,384 clauses, so 16 MiB of clauses of three literals are mostly blanks. Hence three shapes:
 #
@@ -19,8 +19,8 @@
 # system, which other work on the machine disturbs least.
 set -eu
 cd "$(dirname "$0")/.."
-program=$PWD/target/bin/jumpweft
-[ -x "$program" ] || { echo "bench: no $program: run rt check jumpweft first" >&2; exit 2; }
+program=$PWD/crates/jumpweft/out/jumpweft
+[ -x "$program" ] || { echo "bench: no $program: run rt ci first" >&2; exit 2; }
 folder=$(mktemp -d)
 trap 'rm -rf "$folder"' EXIT
 python3 - "$program" "$folder" "${1:-5}" <<'PYTHON'
