@@ -641,11 +641,12 @@ class Arguments:
             raise Usage(f"{option} takes a number")
         return value
 
-    def shelf(self):
+    def shelf(self, most_clauses=None):
+        """The shelf of the options; where none says how many clauses it takes, it takes so many."""
         kind = self.options.get("--shelf", "flat")
         if kind not in ("flat", "linked"):
             raise Usage("--shelf takes flat or linked")
-        return make_shelf(kind, self.number("--filed", None), self.number("--entries", None))
+        return make_shelf(kind, self.number("--filed", most_clauses), self.number("--entries", None))
 
 
 def plain_number(word, limit):
@@ -817,7 +818,9 @@ def case_arguments(arguments, file_count):
     if len(arguments.files) != file_count:
         raise Usage(f"this command takes {file_count} files")
     case = arguments.number("--case", 1, 1 << 32)
-    return case, arguments.shelf(), [read_file(name) for name in arguments.files]
+    texts = [read_file(name) for name in arguments.files]
+    # a clause takes a record of at least 8 bytes
+    return case, arguments.shelf(len(texts[-1]) // 8), texts
 
 
 def run_case(examiner, case, proof, arguments, say):
