@@ -1,5 +1,5 @@
 -- Formula tables that an accepted reading leaves.
-use Rattle.std.specs.Prelude.{◌≡◌, ℕ, ◌+◌, ◌-◌, ◌<◌, Bool, true, false, cond, not, ◌&&◌, List, [], ◌∷◌, ◌++◌, length, take, drop, set, replicate, Some, None, Ok, Option, ◌==◌, nat_le, slice_index, slice_set}
+use Rattle.std.specs.Prelude.{◌≡◌, ℕ, ◌+◌, ◌-◌, ◌<◌, Bool, true, false, cond, not, ◌&&◌, List, [], ◌∷◌, ◌++◌, length, take, drop, replicate, Some, None, Ok, Option, ◌==◌, nat_le, slice_index, slice_set}
 use Rattle.std.specs.List.{AllByRecursion as All}
 use Rattle.base.specs.Words.{empty_word, first_word, within_word}
 use Rattle.words.specs.Words.{words_from}
