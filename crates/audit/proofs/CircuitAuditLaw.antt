@@ -1,6 +1,6 @@
 -- The circuit audit accepts exactly the tables that some accepted reading of some text leaves.
 use Rattle.std.proofs.Common.{◌≡◌, ℕ, ◌+◌, ◌-◌, ◌*◌, ◌<◌, ◌≤◌, Bool, true, List, length, take, drop, Decides, sym, ap, ◌∙◌, subst, arith}
-use Rattle.std.specs.List.{AllByRecursion as All}
+use Rattle.std.specs.List.{AllByRecursion}
 use Rattle.std.proofs.lemmas.List.{length-take-le}
 use Rattle.std.proofs.ByRecursion.{All-weaker}
 use Rattle.std.proofs.lemmas.Bool.{and_parts, and_from}
@@ -18,7 +18,7 @@ use Rattle.audit.proofs.CircuitTexts.{circuit_text}
 -- what the audit's tests say
 record Passed (h : CircuitHead) (os : List ℕ) (gs : List Gate) : Type 0 where
   counts : Counts h (length os) (length gs)
-  outputs : All (λ o. o < 2 * h.wires + 2) (take h.outputs os)
+  outputs : AllByRecursion (λ o. o < 2 * h.wires + 2) (take h.outputs os)
   free_outputs : zero_outputs (drop h.outputs os) ≡ true
   gates : OrderedFrom h.inputs (take h.gates gs)
   free_gates : zero_gates (drop h.gates gs) ≡ true
@@ -123,7 +123,7 @@ module _ (h : CircuitHead) (os : List ℕ) (gs : List Gate) where
                 gates_fit = omega (arith, gates_are, read.gates_fit);
               };
           outputs =
-              subst (All (λ o. o < 2 * h.wires + 2)) (sym (padded_front 0 os l.circuit.outputs (length os) h.outputs (sym outputs_are) l.outputs))
+              subst (AllByRecursion (λ o. o < 2 * h.wires + 2)) (sym (padded_front 0 os l.circuit.outputs (length os) h.outputs (sym outputs_are) l.outputs))
               (All-weaker (λ o. o ≤ 2 * (l.circuit.head.inputs + length l.circuit.gates) + 1) (λ o. o < 2 * h.wires + 2) (λ o b. omega (arith, wires_are)) l.circuit.outputs read.lawful.outputs);
           free_outputs = ap zero_outputs (padded_rest 0 os l.circuit.outputs (length os) h.outputs (sym outputs_are) l.outputs) ∙ zeros_outputs (length os - length l.circuit.outputs);
           gates =

@@ -1,6 +1,6 @@
 -- What the tests of the circuit audit say of its tables, and back.
 use Rattle.std.proofs.Common.{◌≡◌, ℕ, zero, suc, ◌+◌, ◌-◌, ◌*◌, ◌<◌, ◌≤◌, true, eqb, ltb, leb, List, [], ◌∷◌, ◌++◌, length, take, drop, replicate, Decides, sym, refl, ap, ◌∙◌, ap₂}
-use Rattle.std.specs.List.{AllByRecursion as All}
+use Rattle.std.specs.List.{AllByRecursion}
 use Rattle.std.proofs.lemmas.List.{take-append-drop, length-take-le, length-drop, take_at, drop_at}
 use Rattle.std.proofs.lemmas.Bool.{leb-true, le-leb, eqb-true, eq-eqb, and_parts, and_from}
 use Rattle.std.proofs.lemmas.Bool.Decides.{Decides-ltb}
@@ -59,7 +59,7 @@ module _ (h : CircuitHead) (outputs gates : ℕ) where
   decides_counts = (counts_are, are_counts)
 
 -- the entries
-pub decides_outputs : (bound : ℕ) (os : List ℕ) → Decides (outputs_lawful bound os) (All (λ o. o < bound) os)
+pub decides_outputs : (bound : ℕ) (os : List ℕ) → Decides (outputs_lawful bound os) (AllByRecursion (λ o. o < bound) os)
 decides_outputs bound os = Decides-by_and (λ o. ltb o bound) (λ o. o < bound) (outputs_lawful bound) (λ o. Decides-ltb o bound) refl (λ _ _. refl) os
 
 gates_ordered : (i : ℕ) (gs : List Gate) → gates_lawful i gs ≡ true → OrderedFrom i gs

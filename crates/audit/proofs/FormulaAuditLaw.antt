@@ -1,6 +1,6 @@
 -- The formula audit accepts exactly the tables that some accepted reading of some text leaves.
 use Rattle.std.proofs.Common.{◌≡◌, ℕ, ◌+◌, ◌-◌, ◌^◌, ◌<◌, ◌≤◌, Bool, true, not, leb, List, length, get_or, Decides, sym, refl, ap, ◌∙◌, subst, ap₂, arith}
-use Rattle.std.specs.List.{AllByRecursion as All}
+use Rattle.std.specs.List.{AllByRecursion}
 use Rattle.std.proofs.ByRecursion.{All-weaker}
 use Rattle.std.proofs.lemmas.List.{ext_get_or}
 use Rattle.std.proofs.lemmas.Bool.{leb-true, le-leb, and_parts, and_from}
@@ -83,7 +83,7 @@ module _ (h : Head) (vs : List Variable) (cs : List Clause) (ls : List Literal) 
   Range v = (1 ≤ v) × (v ≤ known)
 
   -- tables that pass are left by the text of their formula
-  module _ (low : All (λ x. x.dependencies.bits < 2 ^ 64) vs) (l : Limits h (length vs) (length cs)) (a : Variables h vs) where
+  module _ (low : AllByRecursion (λ x. x.dependencies.bits < 2 ^ 64) vs) (l : Limits h (length vs) (length cs)) (a : Variables h vs) where
     abbrev few_u : h.universals ≤ 64
     few_u = l.few_universals
 
@@ -122,10 +122,10 @@ module _ (h : Head) (vs : List Variable) (cs : List Clause) (ls : List Literal) 
             clauses = m.lawful;
           }
 
-      small : (us : List ℕ) → All Range us → All Small us
+      small : (us : List ℕ) → AllByRecursion Range us → AllByRecursion Small us
       small us r = All-weaker Range Small (λ v b. (b.0, omega (arith, l.few_variables))) us r
 
-      small_clauses : All SmallClause m.matrix
+      small_clauses : AllByRecursion SmallClause m.matrix
       small_clauses =
           All-weaker (LawfulClause (variables_of prefix)) SmallClause
           (λ c lawful. All-weaker (λ x. member x.variable (variables_of prefix) ≡ true) (λ x. Small x.variable) (λ x t. let (some, most) = range x.variable t in (some, omega (arith, l.few_variables))) c lawful.2)

@@ -1,6 +1,6 @@
 -- The dependency words of lawful records fit 64 bits.
 use Rattle.std.proofs.Common.{◌≡◌, ◌+◌, ◌-◌, ◌^◌, ◌<◌, ◌≤◌, true, ◌&&◌, eqb, List, get_or, drop, sym, ap, ◌∙◌, subst, ⊎_elim, arith}
-use Rattle.std.specs.List.{AllByRecursion as All}
+use Rattle.std.specs.List.{AllByRecursion}
 use Rattle.std.proofs.ByRecursion.{All-get_or, All-from_get_or}
 use Rattle.std.proofs.lemmas.List.{get_or-drop, length-drop}
 use Rattle.std.proofs.lemmas.Bool.{and_parts, cases_lt}
@@ -24,7 +24,7 @@ undeclared_bound : (x : Variable) → undeclared x ≡ true → x.dependencies.b
 undeclared_bound x e =
     within_bound x.dependencies empty_word (and_parts (is_undeclared x.kind && eqb x.position 0) (within_word x.dependencies empty_word) e).1
 
-pub variables_bound : (h : Head) (vs : List Variable) → Variables h vs → All (λ x. x.dependencies.bits < 2 ^ 64) vs
+pub variables_bound : (h : Head) (vs : List Variable) → Variables h vs → AllByRecursion (λ x. x.dependencies.bits < 2 ^ 64) vs
 variables_bound h vs a =
     let known = h.variables in
     All-from_get_or (λ x. x.dependencies.bits < 2 ^ 64) vs no_variable

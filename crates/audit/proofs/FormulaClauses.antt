@@ -1,6 +1,6 @@
 -- What the audit's tests say of the clauses, and back: the tables hold a lawful matrix.
 use Rattle.std.proofs.Common.{◌≡◌, ℕ, zero, suc, ◌+◌, ◌-◌, ◌≤◌, Bool, true, false, cond, not, ◌&&◌, ◌||◌, eqb, leb, List, [], ◌∷◌, ◌++◌, map, length, take, drop, replicate, Some, None, Option, sym, refl, ap, ◌∙◌, subst, ap₂, add-zero, arith}
-use Rattle.std.specs.List.{AllByRecursion as All}
+use Rattle.std.specs.List.{AllByRecursion}
 use Rattle.std.proofs.ByRecursion.{All-weaker}
 use Rattle.std.proofs.lemmas.List.{append_assoc, append-nil, length-append, length-drop, length-take-le, map-append, take-append-drop, take-take, take_at, drop_at, drop-drop, drop-take}
 use Rattle.std.proofs.lemmas.Bool.{and_parts, and_from, cond-true, eqb-true, eq-eqb, leb-true, le-leb, not-true, not-false, not_from_true, not_from_false}
@@ -72,20 +72,20 @@ record Cut (at : ℕ) (ss : List Clause) (ls : List Literal) (end : ℕ) (declar
   within : end ≤ length ls
   spans : spans_from at (matrix_of at ss ls) ≡ ss
   literals : take at ls ++ literals_of (matrix_of at ss ls) ≡ take end ls
-  lawful : All (LawfulClause declared) (matrix_of at ss ls)
+  lawful : AllByRecursion (LawfulClause declared) (matrix_of at ss ls)
 
 -- The tables hold a matrix of lawful clauses, and zeros behind it.
 pub record MatrixHeld (h : Head) (cs : List Clause) (ls : List Literal) (declared : List ℕ) : Type 0 where
   pub matrix : List (List Literal)
   pub count : length matrix ≡ h.clauses
-  pub lawful : All (LawfulClause declared) matrix
+  pub lawful : AllByRecursion (LawfulClause declared) matrix
   pub clauses : cs ≡ padded no_span (spans_from 0 matrix) (length cs)
   pub literals : ls ≡ padded no_literal (literals_of matrix) (length ls)
   pub fits : length (literals_of matrix) ≤ length ls
 
 -- one clause
 module _ (known : ℕ) (vs : List Variable) where
-  clause_is : (done ls : List Literal) → clause_lawful known vs done ls ≡ true → Distinct (map literal_variable done) → Distinct (map literal_variable (done ++ ls)) × All (Named known vs) ls
+  clause_is : (done ls : List Literal) → clause_lawful known vs done ls ≡ true → Distinct (map literal_variable done) → Distinct (map literal_variable (done ++ ls)) × AllByRecursion (Named known vs) ls
   clause_is done [] e d = (subst (λ (x : List Literal). Distinct (map literal_variable x)) (sym (append-nil done)) d, tt)
   clause_is done (l ∷ ls) e d =
       let v = l.variable in
@@ -100,7 +100,7 @@ module _ (known : ℕ) (vs : List Variable) where
         ((leb-true 1 v f.0, leb-true v known f.1, not-true (is_undeclared (variable_at vs v).kind) c.1), rest.1),
       )
 
-  is_clause : (done ls : List Literal) → Distinct (map literal_variable (done ++ ls)) → All (Named known vs) ls → clause_lawful known vs done ls ≡ true
+  is_clause : (done ls : List Literal) → Distinct (map literal_variable (done ++ ls)) → AllByRecursion (Named known vs) ls → clause_lawful known vs done ls ≡ true
   is_clause done [] d h = refl
   is_clause done (l ∷ ls) d ((low, high, declared), h) =
       let v = l.variable in
@@ -147,7 +147,7 @@ module _ (known : ℕ) (vs : List Variable) where
           lawful = (clause_has c (omega arith) a.1, rest.lawful);
         }
 
-    has_spans : (at : ℕ) (m : List (List Literal)) (ls tail : List Literal) → at ≤ length ls → drop at ls ≡ literals_of m ++ tail → All (LawfulClause declared) m → spans_end known vs at (spans_from at m) ls ≡ Some (at + length (literals_of m))
+    has_spans : (at : ℕ) (m : List (List Literal)) (ls tail : List Literal) → at ≤ length ls → drop at ls ≡ literals_of m ++ tail → AllByRecursion (LawfulClause declared) m → spans_end known vs at (spans_from at m) ls ≡ Some (at + length (literals_of m))
     has_spans at [] ls tail inside e h = ap (λ (n : ℕ). Some n) (sym (add-zero at))
     has_spans at (c ∷ m) ls tail inside e (lawful, h) =
         let back = literals_of m ++ tail in

@@ -1,6 +1,6 @@
 -- The records of a lawful prefix are lawful.
 use Rattle.std.proofs.Common.{◌≡◌, ℕ, ◌+◌, ◌-◌, ◌<◌, ◌≤◌, Bool, true, false, List, length, get_or, drop, sym, ap, ◌∙◌, subst, ⊎_elim, arith}
-use Rattle.std.specs.List.{AllByRecursion as All}
+use Rattle.std.specs.List.{AllByRecursion}
 use Rattle.std.proofs.ByRecursion.{All-get_or, All-from_get_or}
 use Rattle.std.proofs.lemmas.List.{length-drop, get_or-drop}
 use Rattle.std.proofs.lemmas.Bool.{cases_Bool}
@@ -19,7 +19,7 @@ use Rattle.audit.proofs.FormulaVariables.{each_passes, Listed, Variables}
 use Rattle.audit.proofs.FormulaPlaces.{existential_place, place_existential, universals_all, existentials_all, declared_all, Within, groups_within, nothing_inside, record_plain}
 
 -- a formula that is spelt depends only on its universals
-pub spells_within : {ws rest : List Spelt} {f : Dqbf} → Spells ws f rest → All (Within (length (universals_of f.prefix))) f.prefix
+pub spells_within : {ws rest : List Spelt} {f : Dqbf} → Spells ws f rest → AllByRecursion (Within (length (universals_of f.prefix))) f.prefix
 spells_within (spells is_p is_cnf is_v is_c gs stops text) = groups_within gs tt
 
 module _ (h : Head) (vs : List Variable) (ds : List Declaration) (fits : h.variables ≤ length vs) (lawful : LawfulPrefix h.variables ds) (records : (v : ℕ) → 1 ≤ v → v ≤ length vs → variable_at vs v ≡ record_of ds v) where
@@ -29,7 +29,7 @@ module _ (h : Head) (vs : List Variable) (ds : List Declaration) (fits : h.varia
   abbrev Range : ℕ → Type 0
   Range v = (1 ≤ v) × (v ≤ known)
 
-  kind_listed : (of : Kind → Bool) (us : List ℕ) → All Range us → ((w : ℕ) → of (record_of ds w).kind ≡ true → Stands us w (record_of ds w).position) → ((w k : ℕ) → Stands us w k → (of (record_of ds w).kind ≡ true) × ((record_of ds w).position ≡ k)) → Listed of (variable_at vs) known us
+  kind_listed : (of : Kind → Bool) (us : List ℕ) → AllByRecursion Range us → ((w : ℕ) → of (record_of ds w).kind ≡ true → Stands us w (record_of ds w).position) → ((w k : ℕ) → Stands us w k → (of (record_of ds w).kind ≡ true) × ((record_of ds w).position ≡ k)) → Listed of (variable_at vs) known us
   kind_listed of us range place back =
       record {
         each_is = λ k l.
@@ -58,7 +58,7 @@ module _ (h : Head) (vs : List Variable) (ds : List Declaration) (fits : h.varia
       ap undeclared (get_or-drop known vs i no_variable ∙ ap (λ j. get_or vs j no_variable) shift ∙ records v (omega arith) inside ∙ record_none v 0 0 ds (not_beyond v (omega arith)))
       ∙ none_undeclared
 
-  pub prefix_variables_held : h.universals ≡ length (universals_of ds) → h.existentials ≡ length (existentials_of ds) → All (Within (length (universals_of ds))) ds → Variables h vs
+  pub prefix_variables_held : h.universals ≡ length (universals_of ds) → h.existentials ≡ length (existentials_of ds) → AllByRecursion (Within (length (universals_of ds))) ds → Variables h vs
   prefix_variables_held nu ne within =
       record {
         universals = universals_of ds;
@@ -69,6 +69,6 @@ module _ (h : Head) (vs : List Variable) (ds : List Declaration) (fits : h.varia
         existentials_listed = kind_listed is_existential (existentials_of ds) (existentials_all Range ds lawful.in_range) (existential_place ds) (λ w k s. place_existential ds w k lawful.once s);
         plain = λ w low high.
             subst (Plain h) (sym (records w low (omega arith)))
-            (record_plain h w 0 0 ds (omega (arith, lawful.few_universals)) (subst (λ (n : ℕ). All (Within n) ds) (sym nu) within));
+            (record_plain h w 0 0 ds (omega (arith, lawful.few_universals)) (subst (λ (n : ℕ). AllByRecursion (Within n) ds) (sym nu) within));
         rest = (each_passes undeclared (drop known vs)).1 (All-from_get_or (λ x. undeclared x ≡ true) (drop known vs) no_variable beyond);
       }

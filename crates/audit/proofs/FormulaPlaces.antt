@@ -1,6 +1,6 @@
 -- What a lawful prefix says of its variables: the existentials' positions, and the dependencies.
 use Rattle.std.proofs.Common.{◌≡◌, ℕ, zero, suc, ◌+◌, ◌-◌, ◌<◌, ◌≤◌, true, false, cond, ◌&&◌, eqb, leb, List, [], ◌∷◌, ◌++◌, map, length, get_or, sym, refl, ap, ◌∙◌, subst, ⊎_elim, arith}
-use Rattle.std.specs.List.{AllByRecursion as All}
+use Rattle.std.specs.List.{AllByRecursion}
 use Rattle.std.proofs.ByRecursion.{All-append, All-map, All-weaker}
 use Rattle.std.proofs.lemmas.List.{length-append}
 use Rattle.std.proofs.lemmas.Bool.{and_from, and_parts, both_ways, cases_Bool, cases_lt, cond-true, cond-false, eqb-true, le-leb, leb-true, or_cases, or_from, or_parts}
@@ -94,17 +94,17 @@ place_existential ds v k d (low, high, at) =
     (is, omega arith)
 
 -- what holds of all declared variables holds of those of a kind
-pub universals_all : (P : ℕ → Type 0) (ds : List Declaration) → All (λ d. P (variable_of d)) ds → All P (universals_of ds)
+pub universals_all : (P : ℕ → Type 0) (ds : List Declaration) → AllByRecursion (λ d. P (variable_of d)) ds → AllByRecursion P (universals_of ds)
 universals_all P [] h = tt
 universals_all P (universal v ∷ ds) (p, h) = (p, universals_all P ds h)
 universals_all P (existential v w ∷ ds) (p, h) = universals_all P ds h
 
-pub existentials_all : (P : ℕ → Type 0) (ds : List Declaration) → All (λ d. P (variable_of d)) ds → All P (existentials_of ds)
+pub existentials_all : (P : ℕ → Type 0) (ds : List Declaration) → AllByRecursion (λ d. P (variable_of d)) ds → AllByRecursion P (existentials_of ds)
 existentials_all P [] h = tt
 existentials_all P (universal v ∷ ds) (p, h) = existentials_all P ds h
 existentials_all P (existential v w ∷ ds) (p, h) = (p, existentials_all P ds h)
 
-pub declared_all : (P : ℕ → Type 0) (ds : List Declaration) (v : ℕ) → All (λ d. P (variable_of d)) ds → member v (variables_of ds) ≡ true → P v
+pub declared_all : (P : ℕ → Type 0) (ds : List Declaration) (v : ℕ) → AllByRecursion (λ d. P (variable_of d)) ds → member v (variables_of ds) ≡ true → P v
 declared_all P [] v h m = absurd (both_ways false refl m)
 declared_all P (d ∷ ds) v (p, h) m =
     ⊎_elim
@@ -146,18 +146,18 @@ depends_positions us ns w d = (
 )
 
 -- the whole prefix and some more
-within_append : (ds more : List Declaration) → All (Within (length (universals_of ds))) ds → All (Within (length (universals_of ds))) more → All (Within (length (universals_of (ds ++ more)))) (ds ++ more)
+within_append : (ds more : List Declaration) → AllByRecursion (Within (length (universals_of ds))) ds → AllByRecursion (Within (length (universals_of ds))) more → AllByRecursion (Within (length (universals_of (ds ++ more)))) (ds ++ more)
 within_append ds more h g =
     let m = length (universals_of ds) in
     let n = length (universals_of (ds ++ more)) in
     let le : m ≤ n = omega (arith, simp length-append at (ap length (universals_append ds more))) in
     All-weaker (Within m) (Within n) (λ d. within_more m n d le) (ds ++ more) (All-append (Within m) ds more h g)
 
-all_any : {X : Type 0} (P : X → Type 0) → ((x : X) → P x) → (xs : List X) → All P xs
+all_any : {X : Type 0} (P : X → Type 0) → ((x : X) → P x) → (xs : List X) → AllByRecursion P xs
 all_any P f [] = tt
 all_any P f (x ∷ xs) = (f x, all_any P f xs)
 
-pub groups_within : {prefix all : List Declaration} {ws rest : List Spelt} → Groups prefix ws all rest → All (Within (length (universals_of prefix))) prefix → All (Within (length (universals_of all))) all
+pub groups_within : {prefix all : List Declaration} {ws rest : List Spelt} → Groups prefix ws all rest → AllByRecursion (Within (length (universals_of prefix))) prefix → AllByRecursion (Within (length (universals_of all))) all
 groups_within none h = h
 groups_within {prefix} (a_group {vs = vs} is list gs) h =
     groups_within gs (within_append prefix (map universal vs) h (All-map _ universal vs (all_any _ (λ v. tt) vs)))
@@ -181,7 +181,7 @@ first_inside n w few (bound, places) =
     within_from w (first_word n) bound (first_bound n)
     (λ k t. let (low, high) = places k t in has_first n k few ∙ and_from (leb 1 k) (leb k n) (le-leb 1 k low) (le-leb k n high))
 
-pub record_plain : (h : Head) (v n e : ℕ) (ds : List Declaration) → h.universals ≤ 64 → All (Within h.universals) ds → PlainBy (record_from v n e ds).kind h (record_from v n e ds)
+pub record_plain : (h : Head) (v n e : ℕ) (ds : List Declaration) → h.universals ≤ 64 → AllByRecursion (Within h.universals) ds → PlainBy (record_from v n e ds).kind h (record_from v n e ds)
 record_plain h v n e [] few g = (refl, nothing_inside)
 record_plain h v n e (universal u ∷ ds) few (p, g) =
     let R : Variable = record { kind = kind.Universal; position = n + 1; dependencies = empty_word } in

@@ -1,6 +1,6 @@
 -- The prefix of lawful records: the universals in the order of their positions, and then the existentials.
 use Rattle.std.proofs.Common.{◌≡◌, ℕ, zero, suc, ◌+◌, ◌-◌, ◌^◌, ◌<◌, ◌≤◌, Bool, true, false, ◌&&◌, ◌||◌, eqb, leb, List, [], ◌∷◌, ◌++◌, map, length, get_or, drop, sym, refl, ap, ◌∙◌, subst, ap₂, ⊎_elim, arith}
-use Rattle.std.specs.List.{AllByRecursion as All}
+use Rattle.std.specs.List.{AllByRecursion}
 use Rattle.std.proofs.ByRecursion.{All-append, All-map, All-get_or, All-from_get_or}
 use Rattle.std.proofs.lemmas.List.{append-nil, map-append, length-drop, get_or-drop, get_or_past}
 use Rattle.std.proofs.lemmas.Bool.{both_ways, cases_Bool, cases_lt, cond-true, cond-false, and_parts, eq-eqb, eqb-true, leb-true, or_cases, or_from}
@@ -194,10 +194,10 @@ module _ (of : Kind → Bool) (r : ℕ → Variable) (known : ℕ) (us : List �
   listed_beyond : (v : ℕ) → known < v → member v us ≡ false
   listed_beyond v over = ⊎_elim (λ m. absurd (let h = listed_is v m in omega arith)) (λ m. m) (cases_Bool (member v us))
 
-  pub listed_range : All (λ v. (1 ≤ v) × (v ≤ known)) us
+  pub listed_range : AllByRecursion (λ v. (1 ≤ v) × (v ≤ known)) us
   listed_range = All-from_get_or (λ v. (1 ≤ v) × (v ≤ known)) us 0 (λ i h. let (low, high, is, place) = l.each_is i h in (low, omega arith))
 
-module _ (h : Head) (vs : List Variable) (few_universals : h.universals ≤ 64) (few_existentials : h.existentials ≤ 4096) (low : All (λ x. x.dependencies.bits < 2 ^ 64) vs) (a : Variables h vs) where
+module _ (h : Head) (vs : List Variable) (few_universals : h.universals ≤ 64) (few_existentials : h.existentials ≤ 4096) (low : AllByRecursion (λ x. x.dependencies.bits < 2 ^ 64) vs) (a : Variables h vs) where
   abbrev known : ℕ
   known = h.variables
 
@@ -288,7 +288,7 @@ module _ (h : Head) (vs : List Variable) (few_universals : h.universals ≤ 64) 
   plain_existential kind.Existential x e p = p
 
   -- the dependencies are positions of universals
-  pub held_positions : All (λ v. Positions (length us) (depends_on v)) es
+  pub held_positions : AllByRecursion (λ v. Positions (length us) (depends_on v)) es
   held_positions =
       All-from_get_or (λ v. Positions (length us) (depends_on v)) es 0
       (λ i l.

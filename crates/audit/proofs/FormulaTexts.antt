@@ -1,6 +1,6 @@
 -- Every lawful formula whose universals come first has a text.
 use Rattle.std.proofs.Common.{◌≡◌, ℕ, zero, suc, ◌+◌, ◌-◌, ◌<◌, ◌≤◌, true, false, cond, ◌&&◌, ◌||◌, eqb, leb, List, [], ◌∷◌, ◌++◌, map, length, get_or, codes, sym, refl, ap, ◌∙◌, subst, ⊎_elim, add-zero, arith}
-use Rattle.std.specs.List.{AllByRecursion as All}
+use Rattle.std.specs.List.{AllByRecursion}
 use Rattle.std.proofs.ByRecursion.{All-append, All-map, All-weaker, All-from_get_or}
 use Rattle.std.proofs.lemmas.List.{append_assoc, append-nil}
 use Rattle.std.proofs.lemmas.Bool.{and_from, and_left, and_parts, both_ways, cases_Bool, eq-eqb, eqb-true, false≢true, le-leb, leb-true, or_from, or_left}
@@ -34,12 +34,12 @@ chosen_not v k w (u ∷ us) e =
           elim (has_bit w k) as (λ b. member v (cond b (u ∷ rest) rest) ≡ false) [ true ↦ or_from (eqb u v) (member v rest) s (chosen_not v (k + 1) w us e) | false ↦ chosen_not v (k + 1) w us e ]
     ] e refl
 
-chosen_all : (P : ℕ → Type 0) (k : ℕ) (w : ValueWord) (us : List ℕ) → All P us → All P (chosen k w us)
+chosen_all : (P : ℕ → Type 0) (k : ℕ) (w : ValueWord) (us : List ℕ) → AllByRecursion P us → AllByRecursion P (chosen k w us)
 chosen_all P k w [] h = tt
 chosen_all P k w (u ∷ us) (p, h) =
     let rest = chosen (k + 1) w us in
     let rest_has = chosen_all P (k + 1) w us h in
-    elim (has_bit w k) as (λ b. All P (cond b (u ∷ rest) rest)) [ true ↦ (p, rest_has) | false ↦ rest_has ]
+    elim (has_bit w k) as (λ b. AllByRecursion P (cond b (u ∷ rest) rest)) [ true ↦ (p, rest_has) | false ↦ rest_has ]
 
 chosen_distinct : (k : ℕ) (w : ValueWord) (us : List ℕ) → Distinct us → Distinct (chosen k w us)
 chosen_distinct k w [] d = tt
@@ -92,7 +92,7 @@ numbers ns rest = map (num false) ns ++ num false 0 ∷ rest
 abbrev pub Small : ℕ → Type 0
 Small n = (1 ≤ n) × (n ≤ 65535)
 
-numbers_spelt : (p : ℕ) (ns : List ℕ) (rest : List Token) → All Small ns → (q : ℕ) × Listing (spelt p (numbers ns rest)) ns (spelt q rest)
+numbers_spelt : (p : ℕ) (ns : List ℕ) (rest : List Token) → AllByRecursion Small ns → (q : ℕ) × Listing (spelt p (numbers ns rest)) ns (spelt q rest)
 numbers_spelt p [] rest h = (_, list_ends (refl, refl))
 numbers_spelt p (n ∷ ns) rest (s, h) =
     let (q, l) = numbers_spelt (p + length (token_bytes (num false n)) + 1) ns rest h in
@@ -101,7 +101,7 @@ numbers_spelt p (n ∷ ns) rest (s, h) =
 good_number : (n : ℕ) → n ≤ 65535 → Good (num false n)
 good_number n h = (omega arith, λ e. absurd (false≢true e))
 
-numbers_good : (ns : List ℕ) (rest : List Token) → All Small ns → All Good rest → All Good (numbers ns rest)
+numbers_good : (ns : List ℕ) (rest : List Token) → AllByRecursion Small ns → AllByRecursion Good rest → AllByRecursion Good (numbers ns rest)
 numbers_good ns rest h g =
     All-append Good (map (num false) ns) (num false 0 ∷ rest)
     (All-map Good (num false) ns (All-weaker Small (λ n. Good (num false n)) (λ n s. good_number n s.1) ns h))
@@ -116,7 +116,7 @@ clause_tokens [] = []
 clause_tokens (c ∷ m) = map literal_token c ++ num false 0 ∷ clause_tokens m
 
 abbrev pub SmallClause : List Literal → Type 0
-SmallClause c = All (λ l. Small l.variable) c
+SmallClause c = AllByRecursion (λ l. Small l.variable) c
 
 clause_spelt : (p : ℕ) (c : List Literal) (rest : List Token) → SmallClause c → (q : ℕ) × ClauseText (spelt p (map literal_token c ++ num false 0 ∷ rest)) c (spelt q rest)
 clause_spelt p [] rest h = (_, ends (refl, refl))
@@ -124,13 +124,13 @@ clause_spelt p (l ∷ c) rest (s, h) =
     let (q, t) = clause_spelt (p + length (token_bytes (literal_token l)) + 1) c rest h in
     (q, goes (refl, refl) s.0 t)
 
-clauses_spelt : (p : ℕ) (m : List (List Literal)) → All SmallClause m → MatrixText (spelt p (clause_tokens m)) m []
+clauses_spelt : (p : ℕ) (m : List (List Literal)) → AllByRecursion SmallClause m → MatrixText (spelt p (clause_tokens m)) m []
 clauses_spelt p [] h = none
 clauses_spelt p (c ∷ m) (s, h) =
     let (q, t) = clause_spelt p c (clause_tokens m) s in
     more t (clauses_spelt q m h)
 
-clauses_good : (m : List (List Literal)) → All SmallClause m → All Good (clause_tokens m)
+clauses_good : (m : List (List Literal)) → AllByRecursion SmallClause m → AllByRecursion Good (clause_tokens m)
 clauses_good [] h = tt
 clauses_good (c ∷ m) (s, h) =
     All-append Good (map literal_token c) (num false 0 ∷ clause_tokens m)
@@ -151,12 +151,12 @@ module _ (f : ℕ → ValueWord) (us : List ℕ) where
   dependent_tokens [] rest = rest
   dependent_tokens (v ∷ es) rest = name (codes "d") ∷ num false v ∷ numbers (chosen 1 (f v) us) (dependent_tokens es rest)
 
-  dependent_good : (es : List ℕ) (rest : List Token) → All Small us → All Small es → All Good rest → All Good (dependent_tokens es rest)
+  dependent_good : (es : List ℕ) (rest : List Token) → AllByRecursion Small us → AllByRecursion Small es → AllByRecursion Good rest → AllByRecursion Good (dependent_tokens es rest)
   dependent_good [] rest hu h g = g
   dependent_good (v ∷ es) rest hu (s, h) g =
       ((omega arith, (refl, tt)), (good_number v s.1, numbers_good (chosen 1 (f v) us) (dependent_tokens es rest) (chosen_all Small 1 (f v) us hu) (dependent_good es rest hu h g)))
 
-  dependent_spelt : (es : List ℕ) (prefix all : List Declaration) (p : ℕ) (rest : List Token) → Distinct us → All Small us → All (λ v. Positions (length us) (f v)) es → universals_of prefix ≡ us → prefix ++ map (dependent f) es ≡ all → (q : ℕ) × Groups prefix (spelt p (dependent_tokens es rest)) all (spelt q rest)
+  dependent_spelt : (es : List ℕ) (prefix all : List Declaration) (p : ℕ) (rest : List Token) → Distinct us → AllByRecursion Small us → AllByRecursion (λ v. Positions (length us) (f v)) es → universals_of prefix ≡ us → prefix ++ map (dependent f) es ≡ all → (q : ℕ) × Groups prefix (spelt p (dependent_tokens es rest)) all (spelt q rest)
   dependent_spelt [] prefix all p rest d hu h is e =
       (p, subst (λ (x : List Declaration). Groups prefix (spelt p rest) x (spelt p rest)) (sym (append-nil prefix) ∙ e) no_group)
   dependent_spelt (v ∷ es) prefix all p rest d hu (place, h) is e =
@@ -176,8 +176,8 @@ module _ (f : ℕ → ValueWord) (us : List ℕ) where
     abbrev tokens_of : List Token
     tokens_of = name (codes "p") ∷ name (codes "cnf") ∷ num false known ∷ num false (length m) ∷ name (codes "a") ∷ numbers us (dependent_tokens es (clause_tokens m))
 
-    module _ (known_few : known ≤ 65535) (clauses_few : length m ≤ 16384) (d : Distinct us) (hu : All Small us) (he : All Small es) (places : All (λ v. Positions (length us) (f v)) es) (hm : All SmallClause m) where
-      tokens_good : All Good tokens_of
+    module _ (known_few : known ≤ 65535) (clauses_few : length m ≤ 16384) (d : Distinct us) (hu : AllByRecursion Small us) (he : AllByRecursion Small es) (places : AllByRecursion (λ v. Positions (length us) (f v)) es) (hm : AllByRecursion SmallClause m) where
+      tokens_good : AllByRecursion Good tokens_of
       tokens_good = (
         (omega arith, (refl, tt)),
         (
@@ -201,7 +201,7 @@ module _ (f : ℕ → ValueWord) (us : List ℕ) where
           let (q, g) = dependent_spelt es (map universal us) (prefix_of f us es) mid (clause_tokens m) d hu places (free_universals us) refl in
           spells refl refl (refl, refl) (refl, refl) (a_group refl l g) (clauses_stop q m) (clauses_spelt q m hm)
 
-      pub formula_text : (text : List ℕ) × (All (λ b. b < 256) text) × Spells (words_from text 0) held []
+      pub formula_text : (text : List ℕ) × (AllByRecursion (λ b. b < 256) text) × Spells (words_from text 0) held []
       formula_text =
           let t = some_text tokens_of tokens_good in
           (t.0, t.1, subst (λ (ws : List Spelt). Spells ws held []) (sym t.2) tokens_spell)

@@ -1,6 +1,6 @@
 -- What the audit's tests say of the records, and back: the variables of each kind, in the order of their positions.
 use Rattle.std.proofs.Common.{◌≡◌, ℕ, ◌+◌, ◌-◌, ◌<◌, ◌≤◌, Bool, true, false, not, ◌&&◌, eqb, leb, List, length, get_or, take, drop, set, replicate, Some, None, Decides, Option, sym, refl, ap, ◌∙◌, subst, ⊎_elim, arith}
-use Rattle.std.specs.List.{AllByRecursion as All}
+use Rattle.std.specs.List.{AllByRecursion}
 use Rattle.std.proofs.ByRecursion.{All-get_or, All-from_get_or, Decides-by_and}
 use Rattle.std.proofs.lemmas.List.{get_or-take, get_or-drop, length-take-le, length-drop}
 use Rattle.std.proofs.lemmas.Bool.{and_parts, and_from, cond-true, eq-eqb, eqb-false, false≢true, le-leb, ne_eqb, not-true, not_from_false}
@@ -16,7 +16,7 @@ use Rattle.audit.specs.FormulaAudit.{Owners, owners, free, owns_by, on_some, rec
 use Rattle.audit.proofs.FormulaOwners.{is_existential, Owner, Table, PlainBy, Plain, Owned, owned_start, Says, owned_all, own_all}
 
 -- a test that each entry passes
-pub each_passes : {X : Type 0} (test : X → Bool) (xs : List X) → Decides (each test xs) (All (λ x. test x ≡ true) xs)
+pub each_passes : {X : Type 0} (test : X → Bool) (xs : List X) → Decides (each test xs) (AllByRecursion (λ x. test x ≡ true) xs)
 each_passes test xs = Decides-by_and test (λ x. test x ≡ true) (each test) (λ x. (λ e. e, λ e. e)) refl (λ _ _. refl) xs
 
 -- The variables up to `known` of a kind, in the order of their positions.

@@ -1,6 +1,6 @@
 -- Circuit tables that an accepted reading leaves.
 use Rattle.std.specs.Prelude.{◌≡◌, ℕ, ◌+◌, ◌*◌, ◌<◌, Bool, true, ◌&&◌, ltb, List, [], ◌∷◌, length, take, drop, Ok, ◌==◌, nat_eq, nat_le, nat_lt}
-use Rattle.std.specs.List.{AllByRecursion as All}
+use Rattle.std.specs.List.{AllByRecursion}
 use Rattle.words.specs.Words.{words_from}
 use Rattle.words.specs.Tables.{padded}
 use Rattle.circuit.specs.declared.tables.CircuitHead.{CircuitHead}
@@ -40,7 +40,7 @@ circuit_lawful h os gs =
 
 -- A reading of this text from this place, its length set aside, is accepted and leaves this head and these tables.
 pub record LeavesCircuit (text : List ℕ) (place : ℕ) (h : CircuitHead) (os : List ℕ) (gs : List Gate) : Type 0 where
-  pub bytes : All (λ b. b < 256) text
+  pub bytes : AllByRecursion (λ b. b < 256) text
   pub circuit : Circuit
   pub accepted : parts_from (words_from text place) (length os) (length gs) (length text) ≡ Ok circuit
   pub head : h ≡ circuit.head

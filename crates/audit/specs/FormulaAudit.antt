@@ -1,6 +1,6 @@
 -- Formula tables that an accepted reading leaves.
-use Rattle.std.specs.Prelude.{◌≡◌, ℕ, ◌+◌, ◌-◌, ◌<◌, Bool, true, false, cond, not, ◌&&◌, List, [], ◌∷◌, ◌++◌, length, take, drop, set, replicate, Some, None, Ok, Option, ◌==◌, nat_le, slice_index, slice_set}
-use Rattle.std.specs.List.{AllByRecursion as All}
+use Rattle.std.specs.Prelude.{◌≡◌, ℕ, ◌+◌, ◌-◌, ◌<◌, Bool, true, false, cond, not, ◌&&◌, List, [], ◌∷◌, ◌++◌, length, take, drop, replicate, Some, None, Ok, Option, ◌==◌, nat_le, slice_index, slice_set}
+use Rattle.std.specs.List.{AllByRecursion}
 use Rattle.base.specs.Words.{empty_word, first_word, within_word}
 use Rattle.words.specs.Words.{words_from}
 use Rattle.words.specs.Tables.{padded}
@@ -108,7 +108,7 @@ formula_lawful h vs cs ls = head_lawful h (length vs) (length cs) && variables_l
 
 -- A reading of this text from this place, its length set aside, is accepted and leaves this head and these tables.
 pub record LeavesFormula (text : List ℕ) (place : ℕ) (h : Head) (vs : List Variable) (cs : List Clause) (ls : List Literal) : Type 0 where
-  pub bytes : All (λ b. b < 256) text
+  pub bytes : AllByRecursion (λ b. b < 256) text
   pub formula : Formula
   pub accepted : parts_from (words_from text place) (length vs) (length cs) (length ls) (length text) ≡ Ok formula
   pub head : h ≡ formula.head

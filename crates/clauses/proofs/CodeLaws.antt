@@ -1,5 +1,5 @@
 -- Codes come in pairs, 2y and 2y + 1: the complement has the same y and the other parity.
-use Rattle.std.proofs.Common.{◌≡◌, ℕ, ◌/◌, ◌%◌, Bool, not, eqb, arith}
+use Rattle.std.proofs.Common.{◌≡◌, ℕ, ◌/◌, ◌%◌, not, eqb, arith}
 use lib.Bits.{bit_xor, xor_shr, xor_mod, xor_zero_r}
 use Rattle.std.proofs.lemmas.Bool.Decides.{nat_tests}
 

@@ -1,7 +1,7 @@
 -- Histories: over every run, what an open case holds was derived since its opening, its steps and settlings are lawful,
 -- and its slip says exactly which goals were settled.
 use Rattle.std.proofs.Common.{◌≡◌, ℕ, zero, suc, ◌+◌, ◌-◌, ◌<◌, ◌≤◌, Bool, true, false, cond, eqb, ◌⊎◌, List, [], ◌∷◌, ◌++◌, length, get_or, set, Some, None, Ok, Err, Option, Result, sym, refl, ap, ◌∙◌, subst, inl, inr, ⊎_elim, arith}
-use Rattle.std.specs.List.{AllByRecursion as All}
+use Rattle.std.specs.List.{AllByRecursion}
 use Rattle.std.proofs.ByRecursion.{All-push}
 use Rattle.std.proofs.lemmas.List.{get_or_append_left, get_or-set_same, get_or-set_other, length-replicate, length-set, length_push}
 use Rattle.std.proofs.lemmas.Bool.{both_ways, false≢true, cond_both, cond-true, cond-false, cases_Bool, cases_eq, eqb-true, eq-eqb}
@@ -98,7 +98,7 @@ module _ (r : Rules) (bound : r.goals ≤ 16384) where
 
   -- what an open case holds
   record Holds (s : State) (done : List Step) : Type 0 where
-    clauses : All Fit s.list
+    clauses : AllByRecursion Fit s.list
     derived : Derives r done s.list
     marks : (g k : ℕ) → Among (step.Settle g k) done → is_settled s g ≡ true
     settled_by : (g : ℕ) → 1 ≤ g → is_settled s g ≡ true → SettledBy r done s.list g

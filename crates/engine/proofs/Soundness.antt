@@ -1,7 +1,7 @@
 -- Soundness: over every run, each clause on the shelf of an open case and each settled goal is true in every world of the
 -- side, so a slip with the side's verdict says that every goal is.
 use Rattle.std.proofs.Common.{◌≡◌, ℕ, zero, suc, ◌+◌, ◌-◌, ◌<◌, ◌≤◌, Bool, true, false, cond, ◌&&◌, eqb, ltb, leb, List, [], ◌∷◌, length, get_or, replicate, Some, None, Ok, Err, Option, Result, sym, refl, ◌∙◌, subst, ⊎_elim, arith}
-use Rattle.std.specs.List.{AllByRecursion as All}
+use Rattle.std.specs.List.{AllByRecursion}
 use Rattle.std.proofs.ByRecursion.{All-get_or, All-push}
 use Rattle.std.proofs.lemmas.List.{get_or-set_other}
 use Rattle.std.proofs.lemmas.Bool.{false≢true, cond_both, cond-true, cond-false, cases_Bool, cases_eq, and_parts, leb-true, eqb-true, ne_eqb}
@@ -100,7 +100,7 @@ module _ {S : Type 0} (side : SideGhosts S) (s : S) where
 
   record Holds (list : List (List Entry)) (settled : List Bool) : Type 0 where
     accepts : side.opening s ≡ Ok tt
-    clauses : All True list
+    clauses : AllByRecursion True list
     goals : (g : ℕ) → 1 ≤ g → get_or settled (g - 1) false ≡ true → True (side.goal s g)
 
   -- what holds while a case is open
@@ -120,7 +120,7 @@ module _ {S : Type 0} (side : SideGhosts S) (s : S) where
   stepped_well was (Ok y) h w = w y refl
   stepped_well was (Err e) h w = h
 
-  clause_true : (st : State) (n : ℕ) → All True st.list → numbered st n ≡ true → True (clause_at st.list n)
+  clause_true : (st : State) (n : ℕ) → AllByRecursion True st.list → numbered st n ≡ true → True (clause_at st.list n)
   clause_true st n h e =
       let a = and_parts (leb 1 n && leb n (length st.list)) (leb (length (clause_at st.list n)) 1024) e in
       let b = and_parts (leb 1 n) (leb n (length st.list)) a.0 in
@@ -261,7 +261,7 @@ module _ {S : Type 0} (side : SideGhosts S) (s : S) where
     answer_well st (takes bytes) h x e = absurd (taken_never (take_used r st bytes) (take_result r st bytes) x e)
     answer_well st (closes n) h x e = λ m clauses q. slip_well st n h m clauses (same_ends (close_slip r st n) x e ∙ q)
 
-    answers_well : (st : State) (cs : List Call) → Stands st → All (λ a. (x : Slip) → a ≡ ends x → SlipHolds side s x) (answers r st cs)
+    answers_well : (st : State) (cs : List Call) → Stands st → AllByRecursion (λ a. (x : Slip) → a ≡ ends x → SlipHolds side s x) (answers r st cs)
     answers_well st [] h = tt
     answers_well st (c ∷ cs) h = (answer_well st c h, answers_well (next r st c) cs (next_well st c h))
 
@@ -273,7 +273,7 @@ module _ {S : Type 0} (side : SideGhosts S) (s : S) where
     sound_closing list cs n = slip_well (run r (start list) cs) n (start_well list cs)
 
     -- and so do the slips among the answers of more calls
-    pub sound_answers : (list : List (List Entry)) (before cs : List Call) → All (λ a. (x : Slip) → a ≡ ends x → SlipHolds side s x) (answers r (run r (start list) before) cs)
+    pub sound_answers : (list : List (List Entry)) (before cs : List Call) → AllByRecursion (λ a. (x : Slip) → a ≡ ends x → SlipHolds side s x) (answers r (run r (start list) before) cs)
     sound_answers list before cs = answers_well (run r (start list) before) cs (start_well list before)
 
   -- every slip with the side's verdict says that every goal is true in every world

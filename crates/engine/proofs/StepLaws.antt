@@ -2,7 +2,7 @@
 use Rattle.std.proofs.Common.{◌≡◌, ℕ, zero, suc, ◌+◌, ◌-◌, ◌<◌, true, false, List, [], length, set, replicate, Some, None, Ok, Err, vec_items, Option, Result, sym, refl, ap, ◌∙◌, arith}
 use Rattle.std.proofs.lemmas.Bool.{cond-true, cond-false, false≢true, true≢false, and_from, and_left, and_right, ne_eqb, eq-eqb}
 use Rattle.base.specs.declared.faults.Fault.{Fault}
-use Rattle.base.specs.Causes.{Refusal, refused, answered}
+use Rattle.base.specs.Causes.{Refusal, answered}
 use Rattle.clauses.specs.declared.entry.Entry.{Entry}
 use Rattle.clauses.specs.Worlds.{same_entry, complement_entry}
 use Rattle.clauses.specs.Clauses.{contained, once, filed, pivot_at, resolved_by}

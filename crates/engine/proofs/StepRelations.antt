@@ -1,6 +1,6 @@
 -- Steps and settlings at a state with an open case whose clauses fit: those that the rules allow, and no others.
 use Rattle.std.proofs.Common.{◌≡◌, ℕ, ◌+◌, ◌-◌, ◌≤◌, true, false, ◌&&◌, ltb, leb, ◌⊎◌, List, [], ◌∷◌, ◌++◌, length, set, Some, None, Ok, Err, Option, Result, sym, refl, ap, ◌∙◌, subst, inl, inr, ⊎_elim, arith}
-use Rattle.std.specs.List.{AllByRecursion as All}
+use Rattle.std.specs.List.{AllByRecursion}
 use Rattle.std.proofs.ByRecursion.{All-get_or}
 use Rattle.std.proofs.lemmas.Bool.{both_ways, cond_both, cond-true, cond-false, cases_Bool, and_parts, and_from, leb-true, le-leb, ltb-true, ltb-false, ne_eqb}
 use Rattle.base.specs.Causes.{Refusal, refused}
@@ -34,7 +34,7 @@ resolved_parts (Some x) first second position d k pe e =
     (λ f. absurd (err_ok d 18 (sym (cond-false _ _ _ f) ∙ e)))
     (cases_Bool (member same_entry x second))
 
-module _ (r : Rules) (s : State) (k : ℕ) (opened : s.case ≡ Some k) (fits : All Fit s.list) where
+module _ (r : Rules) (s : State) (k : ℕ) (opened : s.case ≡ Some k) (fits : AllByRecursion Fit s.list) where
   open_is : {X : Type 0} (x : Result X Refusal) → open_case s x ≡ x
   open_is {X} x = ap (λ (o : Option ℕ). on_case o (Err (here s 15)) (λ _. x)) opened
 

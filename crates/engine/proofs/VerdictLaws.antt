@@ -1,6 +1,6 @@
 -- Slips hold: of an examiner that calls from the making led to, of a run, and of a whole examination.
 use Rattle.std.proofs.Common.{◌≡◌, ℕ, min, List, [], ◌∷◌, ◌++◌, map, length, take, Result, sym, refl, ap, ◌∙◌, subst}
-use Rattle.std.specs.List.{AllByRecursion as All}
+use Rattle.std.specs.List.{AllByRecursion}
 use Rattle.base.specs.declared.faults.Fault.{Fault}
 use Rattle.clauses.specs.declared.entry.Entry.{Entry}
 use Rattle.records.specs.declared.slip.Slip.{Slip}
@@ -28,7 +28,7 @@ module _ {S : Type 0} (side : SideGhosts S) (s : S) where
   abbrev ToldHolds : runs.Answer → Type 0
   ToldHolds a = (x : Slip) → a ≡ runs.ends x → SlipHolds side s x
 
-  all_told : (row : List Answer) → All ToldHolds (map told_answer row) → All (AnswerHolds side s) row
+  all_told : (row : List Answer) → AllByRecursion ToldHolds (map told_answer row) → AllByRecursion (AnswerHolds side s) row
   all_told [] h = tt
   all_told (a ∷ row) h = (λ x e. h.0 x (ap told_answer e), all_told row h.1)
 
@@ -74,13 +74,13 @@ module _ {S F : Type 0} (side : SideGhosts S) (shelf : ShelfGhosts F) where
         h.state ∙ ap (λ (t : State). runs.run r t more) e ∙ sym (run_append r (start list) before more)
         ∙ ap (λ (q : Rules). runs.run q (start list) (before ++ more)) (sym h.kept.rules_same)
 
-    run_answers : (list : List (List Entry)) (before : List runs.Call) → Reached side shelf list before was → All (AnswerHolds side was.side) (take n row_then)
+    run_answers : (list : List (List Entry)) (before : List runs.Call) → Reached side shelf list before was → AllByRecursion (AnswerHolds side was.side) (take n row_then)
     run_answers list before e =
         let r : Rules = rules_of side shelf was in
         let more : List runs.Call = take n (map called calls) in
         let told : map told_answer (take n row_then) ≡ runs.answers r (runs.run r (start list) before) more = h.answers ∙ ap (λ (t : State). runs.answers r t more) e in
         all_told side was.side (take n row_then)
-        (subst (All (ToldHolds side was.side)) (sym told) (sound_answers side was.side (shelf.K was.shelf) (shelf.W was.shelf) list before more))
+        (subst (AllByRecursion (ToldHolds side was.side)) (sym told) (sound_answers side was.side (shelf.K was.shelf) (shelf.W was.shelf) list before more))
 
     pub run_sound : (list : List (List Entry)) (before : List runs.Call) → Reached side shelf list before was → SoundRun side shelf n calls row_then was is list before
     run_sound list before e =
@@ -101,5 +101,5 @@ module _ {S F : Type 0} (side : SideGhosts S) (shelf : ShelfGhosts F) where
           count = many;
           answers = h.answers ∙ ap (λ (q : Rules). runs.answers q (state_of side shelf was) more) ru ∙ ap (λ (t : State). runs.answers (rules side shelf s f) t more) st;
           rest = h.rest;
-          sound = subst (λ (x : S). All (AnswerHolds side x) (take n row_then)) sd (run_answers (shelf.list f) [] st);
+          sound = subst (λ (x : S). AllByRecursion (AnswerHolds side x) (take n row_then)) sd (run_answers (shelf.list f) [] st);
         }

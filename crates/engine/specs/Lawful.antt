@@ -1,6 +1,5 @@
 -- Lawful runs: what an accepted step or settling leaves, and when a slip is given, for every list of calls.
-use Rattle.std.specs.Prelude.{◌≡◌, ℕ, ◌+◌, ◌-◌, ◌<◌, ◌≤◌, true, false, List, [], ◌∷◌, ◌++◌, length, Some, Ok, Err, Result, slice_set}
-use Rattle.base.specs.Causes.{Refusal}
+use Rattle.std.specs.Prelude.{◌≡◌, ℕ, ◌+◌, ◌-◌, ◌<◌, ◌≤◌, true, false, List, [], ◌∷◌, ◌++◌, length, Some, Ok, slice_set}
 use Rattle.clauses.specs.declared.entry.Entry.{Entry}
 use Rattle.records.specs.declared.slip.Slip.TheVariants as slip
 use Rattle.records.specs.declared.step.Step.{Step}

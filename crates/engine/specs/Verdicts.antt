@@ -1,6 +1,6 @@
 -- What the side's verdict means, on a slip and among answers, and what is known of runs from the making on.
 use Rattle.std.specs.Prelude.{◌≡◌, ℕ, ◌≤◌, min, true, List, ◌++◌, map, length, take, drop, Ok}
-use Rattle.std.specs.List.{AllByRecursion as All}
+use Rattle.std.specs.List.{AllByRecursion}
 use Rattle.clauses.specs.Worlds.{true_in}
 use Rattle.clauses.specs.declared.entry.Entry.{Entry}
 use Rattle.records.specs.declared.slip.Slip.{Slip}
@@ -43,7 +43,7 @@ module _ {S F : Type 0} (side : SideGhosts S) (shelf : ShelfGhosts F) where
   -- of closing then; and the whole run is lawful.
   pub record SoundRun (n : ℕ) (calls : List Call) (row : List Answer) (was is : Examiner S F side shelf) (list : List (List Entry)) (before : List runs.Call) : Type 0 where
     pub reached : Reached list (before ++ take n (map called calls)) is
-    pub answers : All (AnswerHolds side was.side) (take n row)
+    pub answers : AllByRecursion (AnswerHolds side was.side) (take n row)
     pub closing : (number : ℕ) → SlipHolds side is.side (close_slip (rules_of side shelf is) (state_of side shelf is) number)
     pub lawful : RunLawful (rules_of side shelf is) list (before ++ take n (map called calls))
 
@@ -53,4 +53,4 @@ module _ {S F : Type 0} (side : SideGhosts S) (shelf : ShelfGhosts F) where
     pub count : n ≡ min (length calls) (length row)
     pub answers : map told_answer (take n row_then) ≡ runs.answers (rules side shelf s f) (start (shelf.list f)) (take n (map called calls))
     pub rest : drop n row_then ≡ drop n row
-    pub sound : All (AnswerHolds side s) (take n row_then)
+    pub sound : AllByRecursion (AnswerHolds side s) (take n row_then)

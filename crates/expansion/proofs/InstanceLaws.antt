@@ -1,6 +1,6 @@
 -- A clause under a word of values is true in every model of the formula that the tables hold.
 use Rattle.std.proofs.Common.{◌≡◌, ℕ, ◌-◌, ◌/◌, ◌%◌, ◌≤◌, Bool, true, false, ◌&&◌, eqb, ◌⊎◌, List, [], ◌∷◌, length, Ok, sym, refl, ap, ◌∙◌, subst, inl, inr, ⊎_elim, arith}
-use Rattle.std.specs.List.{AllByRecursion as All}
+use Rattle.std.specs.List.{AllByRecursion}
 use Rattle.std.proofs.ByRecursion.{All-get_or}
 use Rattle.std.proofs.lemmas.Bool.{both_ways, eq-eqb, ne_eqb, or_cases, or_left, or_parts, or_right}
 use Rattle.base.specs.declared.values.ValueWord.{ValueWord}
@@ -90,7 +90,7 @@ module _ (t : RowsOfFormula) (m : Model t) (values : ValueWord) where
       or_right (function_value prefix m.functions (annotated (record_of prefix l.variable) l.negative values)) _ h
 
   -- the same of a whole clause of declared variables
-  instance_holds : (ls : List Literal) → All (λ l. member l.variable (variables_of prefix) ≡ true) ls → clause_value m.formula m.functions σ ls ≡ true → some_universal_true t.variables values ls ≡ false → true_in (model_world t m) (instance t.variables values ls) ≡ true
+  instance_holds : (ls : List Literal) → AllByRecursion (λ l. member l.variable (variables_of prefix) ≡ true) ls → clause_value m.formula m.functions σ ls ≡ true → some_universal_true t.variables values ls ≡ false → true_in (model_world t m) (instance t.variables values ls) ≡ true
   instance_holds [] declared h n = absurd (both_ways false refl h)
   instance_holds (l ∷ ls) (d, declared) h n =
       let w = model_world t m in

@@ -1,6 +1,6 @@
 -- Where opening accepts, each output reads only inputs that its existential may depend on.
 use Rattle.std.proofs.Common.{◌≡◌, ℕ, ◌+◌, ◌-◌, ◌*◌, ◌/◌, ◌^◌, ◌<◌, ◌≤◌, Bool, true, false, cond, not, ◌&&◌, eqb, List, [], ◌∷◌, length, get_or, IfOk, Ok, Err, Result, sym, refl, ap, ◌∙◌, subst, arith}
-use Rattle.std.specs.List.{AllByRecursion as All}
+use Rattle.std.specs.List.{AllByRecursion}
 use Rattle.std.proofs.ByRecursion.{All-get_or}
 use Rattle.std.proofs.lemmas.List.{get_or-take}
 use Rattle.std.proofs.lemmas.Result.{IfOk-at_ok}
@@ -63,7 +63,7 @@ opened t c e =
 lower_zero : (j k : ℕ) → lower j k ≡ 0 → (j ≡ 0) × (k ≡ 0)
 lower_zero j k e = (grind (arith, nat_tests), grind (arith, nat_tests))
 
-none_leaving : (c : RowsOfCircuit) (reaches : List ValueWord) (xs : List Variable) → lowest_leaving c reaches xs ≡ 0 → All (λ x. leaving c reaches x ≡ 0) xs
+none_leaving : (c : RowsOfCircuit) (reaches : List ValueWord) (xs : List Variable) → lowest_leaving c reaches xs ≡ 0 → AllByRecursion (λ x. leaving c reaches x ≡ 0) xs
 none_leaving c reaches [] e = tt
 none_leaving c reaches (x ∷ xs) e =
     let p = lower_zero (leaving c reaches x) (lowest_leaving c reaches xs) e in
@@ -96,14 +96,14 @@ module _ (t : RowsOfFormula) (c : RowsOfCircuit) (start : Opened t c) (f : Dqbf)
       (existentials_all (λ v. (1 ≤ v) × (v ≤ f.variables)) f.prefix held.lawful.in_range)
 
   -- its record stands in the table, so what holds of all records holds of it
-  record_passes : (P : Variable → Type 0) → All P t.variables → (k : ℕ) → 1 ≤ k → k ≤ length (existentials_of f.prefix) → P (record_of f.prefix (existential k))
+  record_passes : (P : Variable → Type 0) → AllByRecursion P t.variables → (k : ℕ) → 1 ≤ k → k ≤ length (existentials_of f.prefix) → P (record_of f.prefix (existential k))
   record_passes P all k low high =
       let (least, most) = existential_range k low high in
       let fits = held.fits.variables in
       subst P (held.holds.variables (existential k) least (omega arith))
       (All-get_or P t.variables (existential k - 1) no_variable (omega arith) all)
 
-  words_bound : All (λ x. x.dependencies.bits < 2 ^ 64) t.variables
+  words_bound : AllByRecursion (λ x. x.dependencies.bits < 2 ^ 64) t.variables
   words_bound =
       let h = t.head in
       let a = and_parts (head_lawful h (length t.variables) (length t.clauses) && variables_lawful h t.variables) (clauses_lawful h t.variables t.clauses t.literals) start.formula in

@@ -1,6 +1,6 @@
 -- Circuits that pass opening, and make every goal true under every assignment of the inputs, are right for the formula.
 use Rattle.std.proofs.Common.{◌≡◌, ℕ, ◌+◌, ◌-◌, ◌*◌, ◌≤◌, Bool, true, false, cond, ◌||◌, List, [], ◌∷◌, map, get_or, Ok, sym, refl, ap, ◌∙◌, ap₂, arith}
-use Rattle.std.specs.List.{AllByRecursion as All}
+use Rattle.std.specs.List.{AllByRecursion}
 use Rattle.std.proofs.ByRecursion.{All-from_get_or}
 use Rattle.std.proofs.lemmas.Bool.{true≢false}
 use Rattle.formula.specs.declared.tables.Kind.{Kind}
@@ -78,11 +78,11 @@ module _ (t : RowsOfFormula) (u : RowsOfCircuit) (rows : Rows u) (f : Dqbf) (hel
       ∙ kind_entry (record_of prefix v).kind v l.negative refl (kind_declared held v m)
 
   -- a goal has its clause's value
-  literals_value : (ls : List Literal) → All (λ l. member l.variable (variables_of prefix) ≡ true) ls → true_in (circuit_world c α) (map (goal_entry t.variables u.head.wires) ls) ≡ clause_value f F σ ls
+  literals_value : (ls : List Literal) → AllByRecursion (λ l. member l.variable (variables_of prefix) ≡ true) ls → true_in (circuit_world c α) (map (goal_entry t.variables u.head.wires) ls) ≡ clause_value f F σ ls
   literals_value [] ms = refl
   literals_value (l ∷ ls) (m, ms) = ap₂ ◌||◌ (literal_entry l m) (literals_value ls ms)
 
-  goals_satisfy : ((j : ℕ) → 1 ≤ j → j ≤ goal_number t → (β : Inputs) → true_in (circuit_world c β) (goal_clause t u.head.wires j) ≡ true) → All (λ d. clause_value f F σ d ≡ true) f.matrix
+  goals_satisfy : ((j : ℕ) → 1 ≤ j → j ≤ goal_number t → (β : Inputs) → true_in (circuit_world c β) (goal_clause t u.head.wires j) ≡ true) → AllByRecursion (λ d. clause_value f F σ d ≡ true) f.matrix
   goals_satisfy goals =
       All-from_get_or (λ d. clause_value f F σ d ≡ true) f.matrix []
       (λ i h.

@@ -1,5 +1,5 @@
 -- The truth side: the clauses that say what circuits compute, and the formula's clauses over their wires.
-use Rattle.std.specs.Prelude.{ℕ, zero, suc, ◌+◌, ◌-◌, ◌*◌, ◌/◌, ◌%◌, min, Bool, true, false, cond, not, ◌&&◌, List, [], ◌∷◌, map, length, Ok, Err, Result, ◌==◌, nat_le, slice_index, slice_index_or}
+use Rattle.std.specs.Prelude.{ℕ, ◌+◌, ◌-◌, ◌*◌, ◌/◌, ◌%◌, min, Bool, true, false, cond, not, ◌&&◌, List, [], ◌∷◌, map, Ok, Err, Result, ◌==◌, nat_le, slice_index, slice_index_or}
 use Rattle.base.specs.declared.values.ValueWord.{ValueWord}
 use Rattle.base.specs.Causes.{Refusal, refused}
 use Rattle.base.specs.Words.{empty_word, within_word}

@@ -1,5 +1,5 @@
 -- Chains of blocks, and the clauses that they hold.
-use Rattle.std.specs.Prelude.{ℕ, zero, suc, ◌+◌, ◌/◌, cond, List, [], ◌∷◌, ◌++◌, length, get_or, take, ◌==◌, nat_lt, slice_index_or}
+use Rattle.std.specs.Prelude.{ℕ, zero, suc, ◌+◌, ◌/◌, cond, List, [], ◌∷◌, ◌++◌, get_or, take, ◌==◌, nat_lt, slice_index_or}
 use Rattle.clauses.specs.declared.entry.Entry.{Entry}
 use Rattle.engine.specs.Shelves.{no_entry}
 use Rattle.linked.specs.declared.blocks.Block.{Block}

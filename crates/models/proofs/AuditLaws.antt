@@ -1,5 +1,5 @@
 -- Tables that the audits accept are those of a lawful formula, and of a lawful circuit.
-use Rattle.std.proofs.Common.{◌≡◌, ℕ, ◌-◌, List, length, get_or, take, sym, ap, ◌∙◌, arith}
+use Rattle.std.proofs.Common.{◌≡◌, ℕ, ◌-◌, List, length, get_or, take, sym, ap, ◌∙◌}
 use Rattle.words.specs.Words.{words_from}
 use Rattle.words.specs.Tables.{padded}
 use Rattle.circuit.specs.declared.tables.CircuitHead.{CircuitHead}

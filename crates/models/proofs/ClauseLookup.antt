@@ -1,5 +1,5 @@
 -- The literals of a clause, as they are cut out of the table.
-use Rattle.std.proofs.Common.{◌≡◌, ℕ, ◌+◌, ◌-◌, ◌<◌, ◌≤◌, min, true, ◌&&◌, leb, List, [], length, take, drop, sym, ap, ◌∙◌, ap₂, ⊎_elim, arith, length-drop}
+use Rattle.std.proofs.Common.{◌≡◌, ℕ, ◌+◌, ◌-◌, ◌≤◌, min, List, [], length, take, drop, sym, ap, ◌∙◌, ap₂, ⊎_elim, arith, length-drop}
 use Rattle.std.proofs.lemmas.List.{take_all, drop_all}
 use Rattle.std.proofs.lemmas.Bool.{and_from, cases_lt, cond-true, le-leb}
 use Rattle.formula.specs.declared.tables.Clause.{Clause}

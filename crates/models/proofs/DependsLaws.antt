@@ -1,7 +1,7 @@
 -- An output depends only on the inputs that a path of gates leads to; so circuits that read only what they may compute
 -- functions of the allowed dependencies.
 use Rattle.std.proofs.Common.{◌≡◌, ℕ, zero, suc, ◌+◌, ◌-◌, ◌*◌, ◌/◌, ◌%◌, ◌<◌, ◌≤◌, true, ◌&&◌, eqb, List, [], ◌∷◌, ◌++◌, length, get_or, sym, refl, ap, ◌∙◌, subst, ap₂, ⊎_elim, arith}
-use Rattle.std.specs.List.{AllByRecursion as All}
+use Rattle.std.specs.List.{AllByRecursion}
 use Rattle.std.proofs.ByRecursion.{All-get_or}
 use Rattle.std.proofs.lemmas.List.{append_assoc, map-append}
 use Rattle.std.proofs.lemmas.Bool.{cases_lt, cond-true, eq-eqb}
@@ -90,11 +90,11 @@ module _ (f : Dqbf) (c : Aig) (lawful : Lawful f) (lawful_circuit : LawfulCircui
       ∙ record_existential front rest y d (subst (λ ds. Distinct (variables_of ds)) (sym e) lawful.once) in
       function_allowed y d (ap (λ (x : Variable). is_existential x.kind) at) (ap (λ (x : Variable). x.dependencies) at)
 
-  all_allowed : (front rest : List Declaration) → front ++ rest ≡ f.prefix → All (DependsOnAllowed f.prefix (circuit_functions f.prefix c)) rest
+  all_allowed : (front rest : List Declaration) → front ++ rest ≡ f.prefix → AllByRecursion (DependsOnAllowed f.prefix (circuit_functions f.prefix c)) rest
   all_allowed front [] e = tt
   all_allowed front (d ∷ rest) e =
       (one_allowed front rest d e, all_allowed (front ++ d ∷ []) rest (append_assoc front (d ∷ []) rest ∙ e))
 
   -- what circuits compute that read only what they may depends on the allowed dependencies alone
-  pub functions_allowed : All (DependsOnAllowed f.prefix (circuit_functions f.prefix c)) f.prefix
+  pub functions_allowed : AllByRecursion (DependsOnAllowed f.prefix (circuit_functions f.prefix c)) f.prefix
   functions_allowed = all_allowed [] f.prefix refl

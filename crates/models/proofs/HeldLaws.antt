@@ -1,6 +1,6 @@
 -- What the tables of a formula say of it: its clauses, its variables' records, and what its literals name.
 use Rattle.std.proofs.Common.{◌≡◌, ℕ, zero, suc, ◌+◌, ◌-◌, ◌<◌, ◌≤◌, min, true, false, cond, not, ◌&&◌, leb, List, [], ◌∷◌, ◌++◌, length, get_or, take, drop, replicate, sym, refl, ap, ◌∙◌, subst, arith}
-use Rattle.std.specs.List.{AllByRecursion as All}
+use Rattle.std.specs.List.{AllByRecursion}
 use Rattle.std.proofs.ByRecursion.{All-get_or, All-weaker}
 use Rattle.std.proofs.lemmas.List.{append_assoc, length-append, length-take, take_at, drop_at}
 use Rattle.std.proofs.lemmas.Bool.{and_from, cond-true, cond-false, le-leb, ne_eqb}
@@ -18,7 +18,7 @@ abbrev cut_by : Clause → List Literal → List Literal
 cut_by s ls = take (min s.len 1024) (drop s.first ls)
 
 -- the spans cut each clause out of the literals
-spans_cut : (cs : List (List Literal)) (i : ℕ) (before rest : List Literal) (more : List Clause) (at : ℕ) → length before ≡ at → i < length cs → All (λ c. length c ≤ 1024) cs → cut_by (get_or (spans_from at cs ++ more) i no_span) (before ++ (literals_of cs ++ rest)) ≡ get_or cs i []
+spans_cut : (cs : List (List Literal)) (i : ℕ) (before rest : List Literal) (more : List Clause) (at : ℕ) → length before ≡ at → i < length cs → AllByRecursion (λ c. length c ≤ 1024) cs → cut_by (get_or (spans_from at cs ++ more) i no_span) (before ++ (literals_of cs ++ rest)) ≡ get_or cs i []
 spans_cut [] i before rest more at e h short = absurd (omega arith)
 spans_cut (c ∷ cs) zero before rest more at e h (few, short) =
     let n : min (length c) 1024 ≡ length c = omega arith in
@@ -36,16 +36,16 @@ module _ {t : RowsOfFormula} {f : Dqbf} (held : Held t f) where
       let m = f.matrix in
       let spans = replicate (length t.clauses - length (spans_from 0 m)) no_span in
       let rest = replicate (length t.literals - length (literals_of m)) no_literal in
-      let few : All (λ (c : List Literal). length c ≤ 1024) m = All-weaker (LawfulClause (variables_of f.prefix)) (λ (c : List Literal). length c ≤ 1024) (λ c l. l.0) m held.lawful.clauses in
+      let few : AllByRecursion (λ (c : List Literal). length c ≤ 1024) m = All-weaker (LawfulClause (variables_of f.prefix)) (λ (c : List Literal). length c ≤ 1024) (λ c l. l.0) m held.lawful.clauses in
       cond-true _ _ _ (and_from (leb 1 j) (leb j t.head.clauses) (le-leb 1 j low) (le-leb j t.head.clauses high))
       ∙ ap (λ (cs : List Clause). cut_by (get_or cs (j - 1) no_span) t.literals) held.holds.clauses
       ∙ ap (λ (ls : List Literal). cut_by (get_or (spans_from 0 m ++ spans) (j - 1) no_span) ls) held.holds.literals
       ∙ spans_cut m (j - 1) [] rest spans 0 refl (omega (arith, held.holds.head_clauses)) few
 
   -- a clause of the tables names declared variables
-  pub literals_declared : (j : ℕ) → 1 ≤ j → j ≤ t.head.clauses → All (λ l. member l.variable (variables_of f.prefix) ≡ true) (clause_of t j)
+  pub literals_declared : (j : ℕ) → 1 ≤ j → j ≤ t.head.clauses → AllByRecursion (λ l. member l.variable (variables_of f.prefix) ≡ true) (clause_of t j)
   literals_declared j low high =
-      let P : List Literal → Type 0 = λ c. All (λ (l : Literal). member l.variable (variables_of f.prefix) ≡ true) c in
+      let P : List Literal → Type 0 = λ c. AllByRecursion (λ (l : Literal). member l.variable (variables_of f.prefix) ≡ true) c in
       subst P (sym (clause_held j low high))
       (All-get_or (LawfulClause (variables_of f.prefix)) f.matrix (j - 1) [] (omega (arith, held.holds.head_clauses)) held.lawful.clauses).2
 

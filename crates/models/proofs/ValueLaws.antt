@@ -1,6 +1,6 @@
 -- The value of a declared variable, by the kind of its record.
 use Rattle.std.proofs.Common.{◌≡◌, ℕ, ◌+◌, true, false, eqb, List, [], ◌∷◌, sym, refl, ap, ◌∙◌, subst, ⊎_elim}
-use Rattle.std.specs.List.{AllByRecursion as All}
+use Rattle.std.specs.List.{AllByRecursion}
 use Rattle.std.proofs.lemmas.Bool.{both_ways, cases_Bool, cond-true, cond-false, eqb-true}
 use Rattle.base.specs.Words.{empty_word}
 use Rattle.formula.specs.declared.tables.Kind.TheVariants as kind
@@ -57,7 +57,7 @@ value_universal prefix F σ v h = universal_from F σ v 0 0 prefix h
 pub value_existential : (prefix : List Declaration) (F : Functions) (σ : Assignment) (v : ℕ) → is_existential (record_of prefix v).kind ≡ true → value_of prefix F σ v ≡ F v σ
 value_existential prefix F σ v h = existential_from F σ v 0 0 prefix h
 
-declared_from : (P : Declaration → Type 0) (v n e : ℕ) (ds : List Declaration) → is_existential (record_from v n e ds).kind ≡ true → All P ds → P (existential v (record_from v n e ds).dependencies)
+declared_from : (P : Declaration → Type 0) (v n e : ℕ) (ds : List Declaration) → is_existential (record_from v n e ds).kind ≡ true → AllByRecursion P ds → P (existential v (record_from v n e ds).dependencies)
 declared_from P v n e [] h all = absurd (both_ways false refl h)
 declared_from P v n e (existential y d ∷ ds) h (p, all) =
     ⊎_elim
@@ -80,5 +80,5 @@ declared_from P v n e (universal u ∷ ds) h (p, all) =
     (cases_Bool (eqb u v))
 
 -- what holds of every declaration holds of an existential's, which has its record's dependencies
-pub existential_declared : (P : Declaration → Type 0) (prefix : List Declaration) (v : ℕ) → is_existential (record_of prefix v).kind ≡ true → All P prefix → P (existential v (record_of prefix v).dependencies)
+pub existential_declared : (P : Declaration → Type 0) (prefix : List Declaration) (v : ℕ) → is_existential (record_of prefix v).kind ≡ true → AllByRecursion P prefix → P (existential v (record_of prefix v).dependencies)
 existential_declared P prefix v h all = declared_from P v 0 0 prefix h all

@@ -1,5 +1,5 @@
 -- What circuits compute, and when they are right for a formula.
-use Rattle.std.specs.Prelude.{◌≡◌, ℕ, ◌+◌, ◌-◌, ◌/◌, ◌%◌, ◌≤◌, Bool, true, false, cond, ◌&&◌, List, [], ◌∷◌, ◌++◌, length, ◌==◌, nat_le, slice_index, slice_index_or}
+use Rattle.std.specs.Prelude.{◌≡◌, ℕ, ◌-◌, ◌/◌, ◌%◌, ◌≤◌, Bool, true, false, cond, ◌&&◌, List, [], ◌∷◌, ◌++◌, length, ◌==◌, nat_le, slice_index, slice_index_or}
 use Rattle.base.specs.Words.{has_bit}
 use Rattle.circuit.specs.declared.tables.Gate.{Gate}
 use Rattle.reach.specs.Reach.{Leads}

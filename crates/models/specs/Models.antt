@@ -1,7 +1,7 @@
 -- When a dependency quantified Boolean formula is true. A model is a function for each existential, of the universals that it
 -- may depend on alone, such that every clause is true under every assignment of the universals.
 use Rattle.std.specs.Prelude.{◌≡◌, ℕ, ◌-◌, ◌≤◌, Bool, true, false, cond, not, ◌||◌, List, [], ◌∷◌, length, ◌==◌, slice_index, refl}
-use Rattle.std.specs.List.{AllByRecursion as All}
+use Rattle.std.specs.List.{AllByRecursion}
 use Rattle.base.specs.declared.values.ValueWord.{ValueWord}
 use Rattle.base.specs.Words.{has_bit}
 use Rattle.formula.specs.declared.tables.Literal.{Literal}
@@ -54,8 +54,8 @@ DependsOnAllowed prefix F (universal u) = Unit {0}
 DependsOnAllowed prefix F (existential y d) = (σ τ : Assignment) → Agree prefix d σ τ → F y σ ≡ F y τ
 
 pub record IsModel (f : Dqbf) (F : Functions) : Type 0 where
-  pub allowed : All (DependsOnAllowed f.prefix F) f.prefix
-  pub satisfies : (σ : Assignment) → All (λ c. clause_value f F σ c ≡ true) f.matrix
+  pub allowed : AllByRecursion (DependsOnAllowed f.prefix F) f.prefix
+  pub satisfies : (σ : Assignment) → AllByRecursion (λ c. clause_value f F σ c ≡ true) f.matrix
 
 -- the formula is true: it has a model
 abbrev pub TrueFormula : Dqbf → Type 0

@@ -2,7 +2,7 @@
 use Rattle.std.proofs.Common.{◌≡◌, ℕ, zero, suc, ◌+◌, ◌*◌, ◌/◌, ◌%◌, ◌^◌, ◌<◌, ◌≤◌, List, [], ◌∷◌, ◌++◌, length, get_or, drop, sym, refl, ap, ◌∙◌, mul-le-mul_right, mod-eq_of_lt, mul_assoc, add-mul, pow-suc, arith}
 use native.Mathlib.Nat.{pow-succ', div-eq_of_lt-le}
 use lib.Arith.{mod-mul}
-use Rattle.std.specs.List.{AllByRecursion as All}
+use Rattle.std.specs.List.{AllByRecursion}
 use Rattle.std.proofs.lemmas.List.{drop_more}
 use Rattle.records.specs.Bytes.{bytes_of, number_from}
 
@@ -33,13 +33,13 @@ number_low y (b ∷ bs) =
     rw (pow-succ' 256 (length bs), ← mul_assoc y 256 (256 ^ length bs))
     (omega (arith, number_low (y * 256 + b) bs, add-mul (y * 256) b (256 ^ length bs)))
 
-number_high : (y : ℕ) (bs : List ℕ) → All (λ b. b < 256) bs → number_from y bs < (y + 1) * 256 ^ length bs
+number_high : (y : ℕ) (bs : List ℕ) → AllByRecursion (λ b. b < 256) bs → number_from y bs < (y + 1) * 256 ^ length bs
 number_high y [] h = omega arith
 number_high y (b ∷ bs) h =
     let more : (y * 256 + b + 1) * 256 ^ length bs ≤ (y + 1) * 256 * 256 ^ length bs = mul-le-mul_right (256 ^ length bs) (omega arith) in
     rw (pow-succ' 256 (length bs), ← mul_assoc (y + 1) 256 (256 ^ length bs)) (omega (arith, number_high (y * 256 + b) bs h.1))
 
-bytes_behind : (y : ℕ) (bs : List ℕ) → All (λ b. b < 256) bs → bytes_of (length bs) (number_from y bs) ≡ bs
+bytes_behind : (y : ℕ) (bs : List ℕ) → AllByRecursion (λ b. b < 256) bs → bytes_of (length bs) (number_from y bs) ≡ bs
 bytes_behind y [] h = refl
 bytes_behind y (b ∷ bs) h =
     let n = number_from (y * 256 + b) bs in
@@ -50,7 +50,7 @@ bytes_behind y (b ∷ bs) h =
     cc
 
 -- the bytes of the number that n bytes are
-pub bytes_of_number : (n : ℕ) (bs : List ℕ) → length bs ≡ n → All (λ b. b < 256) bs → bytes_of n (number_from 0 bs) ≡ bs
+pub bytes_of_number : (n : ℕ) (bs : List ℕ) → length bs ≡ n → AllByRecursion (λ b. b < 256) bs → bytes_of n (number_from 0 bs) ≡ bs
 bytes_of_number n bs e h = ap (λ k. bytes_of k (number_from 0 bs)) (sym e) ∙ bytes_behind 0 bs h
 
 -- n elements from an index on, one by one

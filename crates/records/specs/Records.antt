@@ -2,7 +2,6 @@
 use Rattle.std.specs.Prelude.{◌≡◌, ℕ, ◌+◌, ◌^◌, ◌<◌, Bool, cond, ◌&&◌, List, [], ◌∷◌, ◌++◌, length, take, drop, Some, None, Ok, Err, Option, Result, ◌==◌, ◌≢◌, nat_le, slice_index}
 use Rattle.base.specs.declared.faults.Fault.{Fault}
 use Rattle.base.specs.Causes.{Refusal, told, refused}
-use Rattle.records.specs.declared.step.Premise.{Premise}
 use Rattle.records.specs.declared.step.Premise.TheVariants.{Truth, Falsity}
 use Rattle.records.specs.declared.step.Step.{Step}
 use Rattle.records.specs.declared.step.Step.TheVariants.{Resolve, Settle}

@@ -2,11 +2,10 @@
 use Rattle.std.proofs.Common.{◌≡◌, ℕ, true}
 use Rattle.engine.specs.Verdicts.{Concluded}
 use Rattle.engine.proofs.Soundness.{sound_closing}
-use Rattle.spelling.specs.Dqbf.{Dqbf}
 use Rattle.audit.proofs.FormulaAuditLaw.{formula_audit}
 use Rattle.models.specs.declared.tables.CircuitTables.{CircuitTables}
 use Rattle.models.specs.declared.tables.FormulaTables.{FormulaTables}
-use Rattle.models.specs.HeldTables.{RowsOfFormula, formula_rows, circuit_rows, lawful_formula, Held}
+use Rattle.models.specs.HeldTables.{formula_rows, circuit_rows, lawful_formula}
 use Rattle.models.proofs.AuditLaws.{left_held}
 use Rattle.gates.proofs.OpeningLaws.{opened}
 use Rattle.sides.specs.contracts.falsity.FalsitySideSide.TheImpl.{ghosts as falsity_side}

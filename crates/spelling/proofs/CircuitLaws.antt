@@ -1,6 +1,6 @@
 -- A reading of a circuit text accepts exactly what spells a lawful circuit that fits the tables.
 use Rattle.std.proofs.Common.{◌≡◌, ℕ, ◌+◌, ◌*◌, ◌≤◌, false, not, eqb, ltb, List, [], ◌∷◌, ◌++◌, length, Ok, Err, Result, sym, refl, ap, ◌∙◌, subst, add-zero, arith}
-use Rattle.std.specs.List.{AllByRecursion as All}
+use Rattle.std.specs.List.{AllByRecursion}
 use Rattle.std.proofs.lemmas.List.{length-replicate}
 use Rattle.std.proofs.lemmas.Bool.{ltb-false, eqb-true, le-ltb, eq-eqb, not-false, not_from_true, cond-false}
 use Rattle.base.specs.declared.faults.Fault.{Fault}
@@ -100,7 +100,7 @@ module _ (ws : List Spelt) (output_room gate_room size : ℕ) where
   abbrev Heads : Type 0
   Heads = CircuitHead × List Spelt × ℕ
 
-  circuit_parts : (h : Heads) (i : Unit {0} × List Spelt × ℕ) (o : List ℕ × List Spelt × ℕ) (g : List Gate × List Spelt × ℕ) → HeaderRead ws output_room gate_room h → Run h.1 h.2 (input_literals 1 h.0.inputs) i.1 i.2 → (length o.0 ≡ h.0.outputs) × All (λ x. x ≤ 2 * h.0.wires + 1) o.0 × Run i.1 i.2 o.0 o.1 o.2 → (length g.0 ≡ h.0.gates) × OrderedFrom h.0.inputs g.0 × Run o.1 o.2 (gate_literals h.0.inputs g.0) g.1 g.2 → CircuitWasRead ws output_room gate_room (record { head = h.0; outputs = o.0; gates = g.0; place = g.2 })
+  circuit_parts : (h : Heads) (i : Unit {0} × List Spelt × ℕ) (o : List ℕ × List Spelt × ℕ) (g : List Gate × List Spelt × ℕ) → HeaderRead ws output_room gate_room h → Run h.1 h.2 (input_literals 1 h.0.inputs) i.1 i.2 → (length o.0 ≡ h.0.outputs) × AllByRecursion (λ x. x ≤ 2 * h.0.wires + 1) o.0 × Run i.1 i.2 o.0 o.1 o.2 → (length g.0 ≡ h.0.gates) × OrderedFrom h.0.inputs g.0 × Run o.1 o.2 (gate_literals h.0.inputs g.0) g.1 g.2 → CircuitWasRead ws output_room gate_room (record { head = h.0; outputs = o.0; gates = g.0; place = g.2 })
   circuit_parts h i o g hr ir or gr =
       let wires : h.0.wires ≡ h.0.inputs + length g.0 = omega (arith, hr.sum, gr.0) in
       let head : h.0 ≡ record { wires = h.0.inputs + length g.0; inputs = h.0.inputs; outputs = length o.0; gates = length g.0 } = head_same h.0 (h.0.inputs + length g.0) (length o.0) (length g.0) wires (sym or.0) (sym gr.0) in
@@ -108,7 +108,7 @@ module _ (ws : List Spelt) (output_room gate_room size : ℕ) where
       record {
         rest = g.1;
         spelt = spelt_from (record { inputs = h.0.inputs; outputs = o.0; gates = g.0 }) hr.name (run_numbers (subst (λ (x : CircuitHead). Run hr.words hr.from (x.wires ∷ x.inputs ∷ 0 ∷ x.outputs ∷ x.gates ∷ (input_literals 1 h.0.inputs ++ (o.0 ++ gate_literals h.0.inputs g.0))) g.1 g.2) head run));
-        lawful = record { few_inputs = hr.few_inputs; few_outputs = omega (arith, hr.few_outputs, or.0); few_wires = omega (arith, hr.few_wires, wires); outputs = subst (λ (m : ℕ). All (λ x. x ≤ 2 * m + 1) o.0) wires or.1; ordered = gr.1 };
+        lawful = record { few_inputs = hr.few_inputs; few_outputs = omega (arith, hr.few_outputs, or.0); few_wires = omega (arith, hr.few_wires, wires); outputs = subst (λ (m : ℕ). AllByRecursion (λ x. x ≤ 2 * m + 1) o.0) wires or.1; ordered = gr.1 };
         outputs_fit = omega (arith, hr.outputs_fit, or.0);
         gates_fit = omega (arith, hr.gates_fit, gr.0);
         head = head;

@@ -1,6 +1,6 @@
 -- The inputs, outputs and gates of a circuit text: what their reading says of the words, and back.
 use Rattle.std.proofs.Common.{◌≡◌, ℕ, zero, suc, ◌+◌, ◌*◌, ◌<◌, ◌≤◌, List, [], ◌∷◌, ◌++◌, length, Ok, sym, refl, ap, ◌∙◌, subst, add-zero, arith}
-use Rattle.std.specs.List.{AllByRecursion as All}
+use Rattle.std.specs.List.{AllByRecursion}
 use Rattle.std.proofs.lemmas.List.{append-nil, append_assoc, length_push}
 use Rattle.words.specs.Words.{Spelt, end_of}
 use Rattle.circuit.specs.declared.tables.Gate.{Gate}
@@ -27,7 +27,7 @@ pub record OutputsRead (m n : ℕ) (done : List ℕ) (ws : List Spelt) (q : ℕ)
   pub new : List ℕ
   pub is : g.0 ≡ done ++ new
   pub count : length new ≡ n
-  pub within : All (λ o. o ≤ 2 * m + 1) new
+  pub within : AllByRecursion (λ o. o ≤ 2 * m + 1) new
   pub run : Run ws q new g.1 g.2
 
 outputs_more : (m n : ℕ) (done : List ℕ) (ws : List Spelt) (q : ℕ) (s : ℕ × List Spelt × ℕ) (g : List ℕ × List Spelt × ℕ) → Taken ws s.0 s.1 s.2 × (s.0 < 2 * m + 2) → OutputsRead m n (done ++ s.0 ∷ []) s.1 s.2 g → OutputsRead m (suc n) done ws q g
@@ -41,7 +41,7 @@ outputs_run m (suc n) done ws q size g e =
     then_cases (below_from (2 * m + 2) ws size) _ g e
     (λ s se h. outputs_more m n done ws q s g (below_taken (2 * m + 2) ws size s se) (outputs_run m n (done ++ s.0 ∷ []) s.1 s.2 size g h))
 
-pub run_outputs : (m : ℕ) (done : List ℕ) (size : ℕ) {os : List ℕ} {ws rest : List Spelt} {p q : ℕ} → Run ws p os rest q → All (λ o. o ≤ 2 * m + 1) os → outputs_from m (length os) done ws p size ≡ Ok (done ++ os, rest, q)
+pub run_outputs : (m : ℕ) (done : List ℕ) (size : ℕ) {os : List ℕ} {ws rest : List Spelt} {p q : ℕ} → Run ws p os rest q → AllByRecursion (λ o. o ≤ 2 * m + 1) os → outputs_from m (length os) done ws p size ≡ Ok (done ++ os, rest, q)
 run_outputs m done size (stops {ws} {q}) a = ap (λ (l : List ℕ). Ok (l, ws, q)) (sym (append-nil done))
 run_outputs m done size {rest = rest} {q = q} (goes {w} {ws} {n = n} {ns = ns} h r) a =
     then_from (below_from (2 * m + 2) (w ∷ ws) size) _ _ _ (taken_below (2 * m + 2) w ws size n h (omega (arith, a.0)))
@@ -102,10 +102,10 @@ run_gates i k done size (g ∷ gs) {rest = rest} {q = q} e (goes {w = x} a (goes
     (run_gates i (k + 1) (done ++ g ∷ []) size gs (omega (arith, length_push done g)) r o.2 ∙ ap (λ (l : List Gate). Ok (l, rest, q)) (append_assoc done (g ∷ []) gs))
 
 -- all outputs, and all gates
-pub outputs_all : (m n : ℕ) (ws : List Spelt) (q size : ℕ) (g : List ℕ × List Spelt × ℕ) → outputs_from m n [] ws q size ≡ Ok g → (length g.0 ≡ n) × All (λ o. o ≤ 2 * m + 1) g.0 × Run ws q g.0 g.1 g.2
+pub outputs_all : (m n : ℕ) (ws : List Spelt) (q size : ℕ) (g : List ℕ × List Spelt × ℕ) → outputs_from m n [] ws q size ≡ Ok g → (length g.0 ≡ n) × AllByRecursion (λ o. o ≤ 2 * m + 1) g.0 × Run ws q g.0 g.1 g.2
 outputs_all m n ws q size g e =
     let r = outputs_run m n [] ws q size g e in
-    subst (λ (l : List ℕ). (length l ≡ n) × All (λ o. o ≤ 2 * m + 1) l × Run ws q l g.1 g.2) (sym r.is) (r.count, r.within, r.run)
+    subst (λ (l : List ℕ). (length l ≡ n) × AllByRecursion (λ o. o ≤ 2 * m + 1) l × Run ws q l g.1 g.2) (sym r.is) (r.count, r.within, r.run)
 
 pub gates_all : (i n : ℕ) (ws : List Spelt) (q size : ℕ) (g : List Gate × List Spelt × ℕ) → gates_from i n [] ws q size ≡ Ok g → (length g.0 ≡ n) × OrderedFrom i g.0 × Run ws q (gate_literals i g.0) g.1 g.2
 gates_all i n ws q size g e =

@@ -3,7 +3,7 @@ use Rattle.std.proofs.Common.{◌≡◌, ℕ, ◌<◌, ◌≤◌, Bool, true, fa
 use Rattle.std.proofs.lemmas.List.{append_assoc}
 use Rattle.std.proofs.lemmas.Bool.{ltb-true, ltb-false, eqb-true, lt-ltb, le-ltb, eq-eqb, cond-true, cond-false}
 use Rattle.base.specs.Causes.{Refusal}
-use Rattle.words.specs.Words.{Spelt, number, start_of, end_of}
+use Rattle.words.specs.Words.{Spelt, start_of, end_of}
 use Rattle.words.specs.Due.{and_then, number_in, name_in, number_from, name_from}
 use Rattle.circuit.specs.Reading.{exact_from, below_from, count_from, at_most, table_count}
 use Rattle.spelling.specs.FormulaGrammar.{Name, Number}

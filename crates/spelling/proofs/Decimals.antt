@@ -1,7 +1,7 @@
 -- Numbers written in decimal digits, read back as words.
 use Rattle.std.proofs.Common.{◌≡◌, ℕ, ◌^◌, ◌<◌, ◌≤◌, Bool, true, false, not, ◌&&◌, ◌||◌, eqb, ltb, ◌⊎◌, List, [], ◌∷◌, length, get_or, drop, Some, None, ap, ◌∙◌, inl, inr, ⊎_elim, arith, rules}
 use Rattle.std.specs.Fmt as written
-use Rattle.std.specs.List.{AllByRecursion as All}
+use Rattle.std.specs.List.{AllByRecursion}
 use Rattle.std.proofs.lemmas.Fmt.{digits_decimal, digits_value-decimal, length-decimal-le, decimal_nonempty, first_decimal, decimal_digit, decimal-digits_value}
 use Rattle.std.proofs.lemmas.Str.Parse.{IsNumeralModel, IsDigitsTest, numerals_by_fold, digits_value_short}
 use Rattle.std.proofs.lemmas.Bool.{cond-true, cond-false, and_parts, cases_eq}
@@ -60,7 +60,7 @@ digit_low b e = (grind (arith, nat_tests), grind (arith, nat_tests))
 digit_no_blank : (b : ℕ) → digit_byte b ≡ true → blank b ≡ false
 digit_no_blank b e = let h = digit_low b e in grind (arith, nat_tests)
 
-all_digits : (bs : List ℕ) → digits bs ≡ true → All (λ b. digit_byte b ≡ true) bs
+all_digits : (bs : List ℕ) → digits bs ≡ true → AllByRecursion (λ b. digit_byte b ≡ true) bs
 all_digits [] e = tt
 all_digits (b ∷ bs) e = let h = and_parts (digit_byte b) (digits bs) e in (h.0, all_digits bs h.1)
 
@@ -81,7 +81,7 @@ module _ (n : ℕ) (small : n < 10 ^ 9) where
   pub number_decimal : number_value (decimal_bytes n) ≡ Some n
   number_decimal = cond-true (number_form (decimal_bytes n)) (Some (decimal 0 (decimal_bytes n))) None number_form_decimal ∙ ap Some (value_decimal_bytes n small)
 
-  pub decimal_bytes_digits : All (λ b. digit_byte b ≡ true) (decimal_bytes n)
+  pub decimal_bytes_digits : AllByRecursion (λ b. digit_byte b ≡ true) (decimal_bytes n)
   decimal_bytes_digits = all_digits (decimal_bytes n) (digits_decimal_bytes n small)
 
   pub decimal_bytes_first : (48 ≤ get_or (decimal_bytes n) 0 0) × (get_or (decimal_bytes n) 0 0 ≤ 57)
@@ -90,10 +90,10 @@ module _ (n : ℕ) (small : n < 10 ^ 9) where
   pub decimal_bytes_no_minus : minus (decimal_bytes n) ≡ false
   decimal_bytes_no_minus = minus_none (decimal_bytes n) (first_digit (decimal_bytes n) (decimal_bytes_some n small) (digits_decimal_bytes n small))
 
-  pub decimal_bytes_low : All (λ b. b < 256) (decimal_bytes n)
+  pub decimal_bytes_low : AllByRecursion (λ b. b < 256) (decimal_bytes n)
   decimal_bytes_low = All-weaker (λ b. digit_byte b ≡ true) (λ b. b < 256) (λ b e. omega (arith, digit_low b e)) (decimal_bytes n) decimal_bytes_digits
 
-  pub decimal_bytes_inked : All (λ b. blank b ≡ false) (decimal_bytes n)
+  pub decimal_bytes_inked : AllByRecursion (λ b. blank b ≡ false) (decimal_bytes n)
   decimal_bytes_inked = All-weaker (λ b. digit_byte b ≡ true) (λ b. blank b ≡ false) digit_no_blank (decimal_bytes n) decimal_bytes_digits
 
   pub numeral_positive : numeral_value (decimal_bytes n) ≡ Some (record { negative = false; value = n })

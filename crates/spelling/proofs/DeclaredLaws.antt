@@ -1,6 +1,6 @@
 -- What the reading has declared so far is a prefix, and each step of the reading adds to both.
 use Rattle.std.proofs.Common.{◌≡◌, ℕ, ◌+◌, ◌-◌, ◌<◌, ◌≤◌, true, false, not, ◌||◌, eqb, ltb, leb, List, [], ◌∷◌, ◌++◌, length, get_or, set, replicate, Ok, Err, Result, sym, refl, ap, ◌∙◌, subst, ap₂, ⊎_elim, add-zero, arith}
-use Rattle.std.specs.List.{AllByRecursion as All}
+use Rattle.std.specs.List.{AllByRecursion}
 use Rattle.std.proofs.ByRecursion.{All-push}
 use Rattle.std.proofs.lemmas.List.{append-nil, get_or-replicate, get_or-set_same, get_or-set_other, length-append, length-replicate, length-set, map-append}
 use Rattle.std.proofs.lemmas.Bool.{both_ways, cases_eq, cond_both, cond-false, cond-true, eqb-true, eq-eqb, lt-leb, leb-false, not-false, not_from_false, not_from_true, not-true, or_cases}
@@ -165,7 +165,7 @@ lawful_like known prefix v w x l =
     (omega (arith, universals_length prefix (existential v w ∷ []))) (omega (arith, existentials_length prefix (existential v w ∷ [])))
     range.0 range.1 (lawful_new known prefix (existential v w) l)
 
-in_range_universal : (known : ℕ) (ds : List Declaration) (u : ℕ) → All (λ d. (1 ≤ variable_of d) × (variable_of d ≤ known)) ds → member u (universals_of ds) ≡ true → (1 ≤ u) × (u ≤ known)
+in_range_universal : (known : ℕ) (ds : List Declaration) (u : ℕ) → AllByRecursion (λ d. (1 ≤ variable_of d) × (variable_of d ≤ known)) ds → member u (universals_of ds) ≡ true → (1 ≤ u) × (u ≤ known)
 in_range_universal known [] u h m = absurd (both_ways false refl m)
 in_range_universal known (universal v ∷ ds) u (r, h) m =
     ⊎_elim

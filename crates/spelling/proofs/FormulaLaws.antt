@@ -1,6 +1,6 @@
 -- A reading of a formula text accepts exactly what spells a lawful formula that fits the tables.
 use Rattle.std.proofs.Common.{◌≡◌, ℕ, zero, suc, ◌+◌, ◌-◌, ◌<◌, ◌≤◌, false, not, ◌||◌, eqb, ltb, ◌⊎◌, List, [], ◌∷◌, ◌++◌, length, get_or, replicate, Ok, Err, Result, sym, refl, ap, ◌∙◌, subst, inl, inr, ⊎_elim, arith}
-use Rattle.std.specs.List.{AllByRecursion as All}
+use Rattle.std.specs.List.{AllByRecursion}
 use Rattle.std.proofs.lemmas.List.{length-replicate}
 use Rattle.std.proofs.lemmas.Bool.{cases_Bool, cond_both, cond-false, le-ltb, ltb-false, ltb-true, ne_eqb, not_from_false, or_from, or_left}
 use Rattle.base.specs.declared.faults.Fault.{Fault}
@@ -28,7 +28,7 @@ use Rattle.spelling.proofs.HeaderLaw.{Header, header_sound, header_complete}
 use Rattle.spelling.proofs.MatrixLaw.{MatrixRead, behind_both, clauses_sound, clauses_complete}
 
 -- the records tell which variables the prefix declares
-not_beyond : (known v : ℕ) (ds : List Declaration) → All (λ d. (1 ≤ variable_of d) × (variable_of d ≤ known)) ds → known < v → member v (variables_of ds) ≡ false
+not_beyond : (known v : ℕ) (ds : List Declaration) → AllByRecursion (λ d. (1 ≤ variable_of d) × (variable_of d ≤ known)) ds → known < v → member v (variables_of ds) ≡ false
 not_beyond known v [] h over = refl
 not_beyond known v (d ∷ ds) ((low, high), h) over =
     or_from (eqb (variable_of d) v) (member v (variables_of ds)) (ne_eqb (variable_of d) v (λ e. omega arith)) (not_beyond known v ds h over)
@@ -55,13 +55,13 @@ behind_on : (ws mid rest : List Spelt) (p q : ℕ) → Behind ws mid p → On mi
 behind_on ws mid rest p q (read, x, e, at) (inl (s, t)) = (read, x, e ∙ ap (λ l. read ++ x ∷ l) (sym s), t ∙ at)
 behind_on ws mid rest p q b (inr c) = behind_both ws mid rest p q b c
 
-all_back : {X : Type 0} (P : X → Type 0) (xs : List X) (y : X) (ys : List X) → All P (xs ++ y ∷ ys) → All P ys
+all_back : {X : Type 0} (P : X → Type 0) (xs : List X) (y : X) (ys : List X) → AllByRecursion P (xs ++ y ∷ ys) → AllByRecursion P ys
 all_back P [] y ys h = h.1
 all_back P (x ∷ xs) y ys h = all_back P xs y ys h.1
 
-proper_on : (ws rest : List Spelt) (p q : ℕ) → On ws rest p q → All Proper ws → All Proper rest
-proper_on ws rest p q (inl (s, t)) h = subst (All Proper) (sym s) h
-proper_on ws rest p q (inr (read, x, e, at)) h = all_back Proper read x rest (subst (All Proper) e h)
+proper_on : (ws rest : List Spelt) (p q : ℕ) → On ws rest p q → AllByRecursion Proper ws → AllByRecursion Proper rest
+proper_on ws rest p q (inl (s, t)) h = subst (AllByRecursion Proper) (sym s) h
+proper_on ws rest p q (inr (read, x, e, at)) h = all_back Proper read x rest (subst (AllByRecursion Proper) e h)
 
 module _ (known : ℕ) (vs : List Variable) (room size : ℕ) where
   clause_place : (done : List Literal) (ws : List Spelt) (space : ℕ) (g : List Literal × List Spelt × ℕ) → clause_from known vs done ws space size ≡ Ok g → Behind ws g.1 g.2
@@ -148,18 +148,18 @@ module _ (ws : List Spelt) (variable_room clause_room literal_room size : ℕ) w
             (behind_on ws h.1 d.1 h.2 d.2 (hr.p ∷ hr.cnf ∷ hr.v ∷ [], hr.c, hr.words, hr.place) at) m.place;
       }
 
-  read_sound : (h : (ℕ × ℕ) × List Spelt × ℕ) (d : Declared × List Spelt × ℕ) (c : Clauses × List Spelt × ℕ) → All Proper ws → header_from ws variable_room clause_room size ≡ Ok h → groups_from h.0.0 outside (nothing_declared (replicate variable_room no_variable)) h.1 h.2 size ≡ Ok d → clauses_from h.0.0 d.0.table h.0.1 no_clause d.1 d.2 literal_room size ≡ Ok c → (dqbf : Dqbf) × (rest : List Spelt) × FormulaWasRead ws variable_room clause_room literal_room (formula_of h d c) dqbf rest
+  read_sound : (h : (ℕ × ℕ) × List Spelt × ℕ) (d : Declared × List Spelt × ℕ) (c : Clauses × List Spelt × ℕ) → AllByRecursion Proper ws → header_from ws variable_room clause_room size ≡ Ok h → groups_from h.0.0 outside (nothing_declared (replicate variable_room no_variable)) h.1 h.2 size ≡ Ok d → clauses_from h.0.0 d.0.table h.0.1 no_clause d.1 d.2 literal_room size ≡ Ok c → (dqbf : Dqbf) × (rest : List Spelt) × FormulaWasRead ws variable_room clause_room literal_room (formula_of h d c) dqbf rest
   read_sound h d c proper he de ce =
       let known = h.0.0 in
       let hr = header_sound ws variable_room clause_room size known h.0.1 h.1 h.2 he in
       let (prefix, gs, stops, a, at, long) = groups_sound known size _ d.0 [] h.1 d.1 h.2 d.2 (declared_start known variable_room hr.variables_fit) de in
-      let behind = all_back Proper (hr.p ∷ hr.cnf ∷ hr.v ∷ []) hr.c h.1 (subst (All Proper) hr.words proper) in
+      let behind = all_back Proper (hr.p ∷ hr.cnf ∷ hr.v ∷ []) hr.c h.1 (subst (AllByRecursion Proper) hr.words proper) in
       let left = proper_on h.1 d.1 h.2 d.2 at behind in
       let m = clauses_sound known d.0.table (variables_of prefix) (declared_tells known d.0 prefix a) h.0.1 d.1 d.2 literal_room size c.0 c.1 c.2 left ce in
       (_, c.1, read_parts h d c prefix hr gs stops a at (long ∙ length-replicate variable_room no_variable) m)
 
   -- SOUND: what the reading accepts is a lawful formula that fits.
-  pub parts_sound : (f : Formula) → All Proper ws → parts_from ws variable_room clause_room literal_room size ≡ Ok f → (dqbf : Dqbf) × (rest : List Spelt) × FormulaWasRead ws variable_room clause_room literal_room f dqbf rest
+  pub parts_sound : (f : Formula) → AllByRecursion Proper ws → parts_from ws variable_room clause_room literal_room size ≡ Ok f → (dqbf : Dqbf) × (rest : List Spelt) × FormulaWasRead ws variable_room clause_room literal_room f dqbf rest
   parts_sound f proper e =
       then_cases (header_from ws variable_room clause_room size) _ f e
       (λ h he e. then_cases (groups_from h.0.0 outside (nothing_declared (replicate variable_room no_variable)) h.1 h.2 size) _ f e

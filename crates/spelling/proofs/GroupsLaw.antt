@@ -1,6 +1,6 @@
 -- The reading of the groups accepts exactly the words of the grammar, and what it has declared is their prefix.
 use Rattle.std.proofs.Common.{◌≡◌, ℕ, zero, suc, ◌<◌, ◌≤◌, true, false, cond, eqb, ◌⊎◌, List, [], ◌∷◌, ◌++◌, map, length, get_or, Ok, Err, codes, Result, sym, refl, ap, ◌∙◌, subst, inl, inr, ⊎_elim, arith}
-use Rattle.std.specs.List.{AllByRecursion as All}
+use Rattle.std.specs.List.{AllByRecursion}
 use Rattle.std.proofs.lemmas.List.{append-nil, append_assoc, length-append, length-set}
 use Rattle.std.proofs.lemmas.Bool.{cases_Bool, cond_both, cond-false, eqb-false, eqb-true, ne_eqb}
 use Rattle.base.specs.declared.values.ValueWord.{ValueWord}
@@ -162,7 +162,7 @@ module _ (known size : ℕ) (prefix : List Declaration) (v : ℕ) where
       number_then w n _ is ∙ cond-false (eqb n 0) _ _ (ne_eqb n 0 (λ z. omega arith))
       ∙ ap (λ x. and_then x (λ d''. reads known size (dependencies v) d'' ws (end_of w))) e
 
-  dependencies_yes : {ws mid : List Spelt} {us : List ℕ} → Listing ws us mid → (d : Declared) (x : ValueWord) (read : List ℕ) (q : ℕ) → DeclaredAs known d (prefix ++ existential v x ∷ []) → Depends (universals_of prefix) read x → Distinct (read ++ us) → All (λ u. member u (universals_of prefix) ≡ true) us → (d' : Declared) × (y : ValueWord) × (q' : ℕ) × (reads known size (dependencies v) d ws q ≡ reads known size outside d' mid q') × DeclaredAs known d' (prefix ++ existential v y ∷ []) × Depends (universals_of prefix) (read ++ us) y
+  dependencies_yes : {ws mid : List Spelt} {us : List ℕ} → Listing ws us mid → (d : Declared) (x : ValueWord) (read : List ℕ) (q : ℕ) → DeclaredAs known d (prefix ++ existential v x ∷ []) → Depends (universals_of prefix) read x → Distinct (read ++ us) → AllByRecursion (λ u. member u (universals_of prefix) ≡ true) us → (d' : Declared) × (y : ValueWord) × (q' : ℕ) × (reads known size (dependencies v) d ws q ≡ reads known size outside d' mid q') × DeclaredAs known d' (prefix ++ existential v y ∷ []) × Depends (universals_of prefix) (read ++ us) y
   dependencies_yes (ends {w} {ws} is) d x read q a h apart all =
       (d, x, end_of w, number_then w 0 _ is, a, subst (λ l. Depends (universals_of prefix) l x) (sym (append-nil read)) h)
   dependencies_yes (goes {w} {ws} {rest} {n} {ns} is some list) d x read q a h apart (m, all) =

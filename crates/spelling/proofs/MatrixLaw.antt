@@ -1,7 +1,7 @@
 -- Clauses are read just where the words spell lawful ones.
 use Rattle.std.proofs.Common.{◌≡◌, ℕ, zero, suc, ◌+◌, ◌-◌, ◌<◌, ◌≤◌, true, false, not, ◌||◌, eqb, ltb, leb, ◌⊎◌, List, [], ◌∷◌, ◌++◌, map, length, Ok, Err, Result, sym, refl, ap, ◌∙◌, subst, ap₂, inl, inr, ⊎_elim, append_assoc, append-nil, arith, length-append}
 use mathlib.Core.List.{map-append}
-use Rattle.std.specs.List.{AllByRecursion as All}
+use Rattle.std.specs.List.{AllByRecursion}
 use Rattle.std.proofs.ByRecursion.{All-push}
 use Rattle.std.proofs.lemmas.List.{length_push}
 use Rattle.std.proofs.lemmas.Bool.{cond_both, cond-false, eqb-false, eqb-true, leb-false, lt-leb, ne_eqb, not-false, not_from_true, or_from, or_parts}
@@ -44,16 +44,16 @@ distinct_middle [] x ys d = refl
 distinct_middle (y ∷ xs) x ys d =
     or_from (eqb y x) (member x xs) (ne_eqb y x (λ s. member_middle y x xs ys d.0 (sym s))) (distinct_middle xs x ys d.1)
 
-all_middle : {X : Type 0} (P : X → Type 0) (xs : List X) (x : X) (ys : List X) → All P (xs ++ x ∷ ys) → P x
+all_middle : {X : Type 0} (P : X → Type 0) (xs : List X) (x : X) (ys : List X) → AllByRecursion P (xs ++ x ∷ ys) → P x
 all_middle P [] x ys h = h.0
 all_middle P (y ∷ xs) x ys h = all_middle P xs x ys h.1
 
 -- what is left of proper words is proper
-pub proper_left : {ws rest : List Spelt} {c : List Literal} → ClauseText ws c rest → All Proper ws → All Proper rest
+pub proper_left : {ws rest : List Spelt} {c : List Literal} → ClauseText ws c rest → AllByRecursion Proper ws → AllByRecursion Proper rest
 proper_left (ends n) h = h.1
 proper_left (goes s pos t) h = proper_left t h.1
 
-pub proper_behind : {ws rest : List Spelt} {cs : List (List Literal)} → MatrixText ws cs rest → All Proper ws → All Proper rest
+pub proper_behind : {ws rest : List Spelt} {cs : List (List Literal)} → MatrixText ws cs rest → AllByRecursion Proper ws → AllByRecursion Proper rest
 proper_behind none h = h
 proper_behind (more t m) h = proper_behind m (proper_left t h)
 
@@ -87,7 +87,7 @@ pub record MatrixRead (declared : List ℕ) (n : ℕ) (before : Clauses) (ws : L
   pub matrix : List (List Literal)
   pub count : length matrix ≡ n
   pub text : MatrixText ws matrix rest
-  pub lawful : All (LawfulClause declared) matrix
+  pub lawful : AllByRecursion (LawfulClause declared) matrix
   pub literals : done.literals ≡ before.literals ++ literals_of matrix
   pub spans : done.spans ≡ before.spans ++ spans_from (length before.literals) matrix
   pub fits : length (before.literals ++ literals_of matrix) ≤ room
@@ -124,7 +124,7 @@ reads_one declared n before c ws mid q p room (Ok g) t lawful b h =
 reads_one declared n before c ws mid q p room (Err e) t lawful b h = tt
 
 module _ (known : ℕ) (vs : List Variable) (declared : List ℕ) (H : (v : ℕ) → 1 ≤ v → (ltb known v || is_undeclared (variable_at vs v).kind) ≡ not (member v declared)) where
-  reads : (done : List Literal) (ws : List Spelt) (room size : ℕ) → All Proper ws → LawfulClause declared done → length done ≤ room → Reads declared done ws room (clause_from known vs done ws room size)
+  reads : (done : List Literal) (ws : List Spelt) (room size : ℕ) → AllByRecursion Proper ws → LawfulClause declared done → length done ≤ room → Reads declared done ws room (clause_from known vs done ws room size)
   reads done [] room size proper lawful fits = tt
   reads done (letter bs p ∷ ws) room size proper lawful fits = tt
   reads done (other bs p ∷ ws) room size proper lawful fits = tt
@@ -150,7 +150,7 @@ module _ (known : ℕ) (vs : List Variable) (declared : List ℕ) (H : (v : ℕ)
       (lawful_push declared done l lawful low once (not-false (member v declared) (sym (H v pos) ∙ new)))
       (simp length_push (omega arith))))))))
 
-  pub clause_sound : (ws : List Spelt) (room size : ℕ) (c : List Literal) (rest : List Spelt) (q : ℕ) → All Proper ws → clause_from known vs [] ws room size ≡ Ok (c, rest, q) → ClauseText ws c rest × LawfulClause declared c × (length c ≤ room) × Behind ws rest q
+  pub clause_sound : (ws : List Spelt) (room size : ℕ) (c : List Literal) (rest : List Spelt) (q : ℕ) → AllByRecursion Proper ws → clause_from known vs [] ws room size ≡ Ok (c, rest, q) → ClauseText ws c rest × LawfulClause declared c × (length c ≤ room) × Behind ws rest q
   clause_sound ws room size c rest q proper e =
       let h = subst (Reads declared [] ws room) e (reads [] ws room size proper (omega arith, tt, tt) (omega arith)) in
       (subst (λ ls. ClauseText ws ls rest) (sym h.1) h.2, h.3, h.4, h.5)
@@ -183,7 +183,7 @@ module _ (known : ℕ) (vs : List Variable) (declared : List ℕ) (H : (v : ℕ)
   pub clause_complete : (ws : List Spelt) (c : List Literal) (rest : List Spelt) (room size : ℕ) → ClauseText ws c rest → LawfulClause declared c → length c ≤ room → (q : ℕ) × (clause_from known vs [] ws room size ≡ Ok (c, rest, q))
   clause_complete ws c rest room size t lawful fits = accepts t [] room size lawful fits
 
-  reads_next : (n : ℕ) (before : Clauses) (ws : List Spelt) (q room size : ℕ) (r : Got (List Literal)) → ((b : Clauses) (us : List Spelt) (p : ℕ) → All Proper us → length b.literals ≤ room → ReadsAll declared n b us p room (clauses_from known vs n b us p room size)) → All Proper ws → length before.literals ≤ room → Reads declared [] ws (room - length before.literals) r → ReadsAll declared (suc n) before ws q room (and_then r (λ c. clauses_from known vs n (add_clause before c.0) c.1 c.2 room size))
+  reads_next : (n : ℕ) (before : Clauses) (ws : List Spelt) (q room size : ℕ) (r : Got (List Literal)) → ((b : Clauses) (us : List Spelt) (p : ℕ) → AllByRecursion Proper us → length b.literals ≤ room → ReadsAll declared n b us p room (clauses_from known vs n b us p room size)) → AllByRecursion Proper ws → length before.literals ≤ room → Reads declared [] ws (room - length before.literals) r → ReadsAll declared (suc n) before ws q room (and_then r (λ c. clauses_from known vs n (add_clause before c.0) c.1 c.2 room size))
   reads_next n before ws q room size (Ok g) next proper fits h =
       let c = g.0 in
       let t = subst (λ ls. ClauseText ws ls g.1) (sym h.1) h.2 in
@@ -192,7 +192,7 @@ module _ (known : ℕ) (vs : List Variable) (declared : List ℕ) (H : (v : ℕ)
       (next (add_clause before c) g.1 g.2 (proper_left t proper) (simp length-append (omega arith)))
   reads_next n before ws q room size (Err e) next proper fits h = tt
 
-  reads_all : (n : ℕ) (before : Clauses) (ws : List Spelt) (q room size : ℕ) → All Proper ws → length before.literals ≤ room → ReadsAll declared n before ws q room (clauses_from known vs n before ws q room size)
+  reads_all : (n : ℕ) (before : Clauses) (ws : List Spelt) (q room size : ℕ) → AllByRecursion Proper ws → length before.literals ≤ room → ReadsAll declared n before ws q room (clauses_from known vs n before ws q room size)
   reads_all zero before ws q room size proper fits =
       record {
         matrix = [];
@@ -209,11 +209,11 @@ module _ (known : ℕ) (vs : List Variable) (declared : List ℕ) (H : (v : ℕ)
       (λ b us p. reads_all n b us p room size) proper fits
       (reads [] ws (room - length before.literals) size proper (omega arith, tt, tt) (omega arith))
 
-  pub clauses_sound : (n : ℕ) (ws : List Spelt) (q room size : ℕ) (done : Clauses) (rest : List Spelt) (q' : ℕ) → All Proper ws → clauses_from known vs n no_clause ws q room size ≡ Ok (done, rest, q') → MatrixRead declared n no_clause ws q room done rest q'
+  pub clauses_sound : (n : ℕ) (ws : List Spelt) (q room size : ℕ) (done : Clauses) (rest : List Spelt) (q' : ℕ) → AllByRecursion Proper ws → clauses_from known vs n no_clause ws q room size ≡ Ok (done, rest, q') → MatrixRead declared n no_clause ws q room done rest q'
   clauses_sound n ws q room size done rest q' proper e =
       subst (ReadsAll declared n no_clause ws q room) e (reads_all n no_clause ws q room size proper (omega arith))
 
-  accepts_all : {ws rest : List Spelt} {cs : List (List Literal)} → MatrixText ws cs rest → (before : Clauses) (q room size : ℕ) → All (LawfulClause declared) cs → length before.literals + length (literals_of cs) ≤ room → (q' : ℕ) × (clauses_from known vs (length cs) before ws q room size ≡ Ok (record { spans = before.spans ++ spans_from (length before.literals) cs; literals = before.literals ++ literals_of cs }, rest, q'))
+  accepts_all : {ws rest : List Spelt} {cs : List (List Literal)} → MatrixText ws cs rest → (before : Clauses) (q room size : ℕ) → AllByRecursion (LawfulClause declared) cs → length before.literals + length (literals_of cs) ≤ room → (q' : ℕ) × (clauses_from known vs (length cs) before ws q room size ≡ Ok (record { spans = before.spans ++ spans_from (length before.literals) cs; literals = before.literals ++ literals_of cs }, rest, q'))
   accepts_all {rest = rest} none before q room size lawful fits =
       (q, ap₂ (λ s l. Ok (record { spans = s; literals = l }, rest, q)) (sym (append-nil before.spans)) (sym (append-nil before.literals)))
   accepts_all {ws = ws} {rest = rest} (more {mid = mid} {c = c} {cs = cs} t m) before q room size lawful fits =
@@ -226,5 +226,5 @@ module _ (known : ℕ) (vs : List Variable) (declared : List ℕ) (H : (v : ℕ)
             ∙ ap₂ (λ s l. Ok (record { spans = s; literals = l }, rest, all.0)) (spans_more before c cs) (append_assoc before.literals c (literals_of cs)),
       )
 
-  pub clauses_complete : (ws : List Spelt) (cs : List (List Literal)) (rest : List Spelt) (q room size : ℕ) → MatrixText ws cs rest → All (LawfulClause declared) cs → length (literals_of cs) ≤ room → (q' : ℕ) × (clauses_from known vs (length cs) no_clause ws q room size ≡ Ok (record { spans = spans_from 0 cs; literals = literals_of cs }, rest, q'))
+  pub clauses_complete : (ws : List Spelt) (cs : List (List Literal)) (rest : List Spelt) (q room size : ℕ) → MatrixText ws cs rest → AllByRecursion (LawfulClause declared) cs → length (literals_of cs) ≤ room → (q' : ℕ) × (clauses_from known vs (length cs) no_clause ws q room size ≡ Ok (record { spans = spans_from 0 cs; literals = literals_of cs }, rest, q'))
   clauses_complete ws cs rest q room size t lawful fits = accepts_all t no_clause q room size lawful (omega arith)

@@ -1,6 +1,6 @@
 -- Laws of prefixes: what a list of declarations says of a variable, and how it grows.
 use Rattle.std.proofs.Common.{◌≡◌, ℕ, zero, suc, ◌+◌, ◌-◌, ◌<◌, ◌≤◌, true, false, cond, not, ◌||◌, eqb, List, [], ◌∷◌, ◌++◌, map, length, get_or, sym, refl, ap, ◌∙◌, subst, ap₂, ⊎_elim, add-zero, arith}
-use Rattle.std.specs.List.{AllByRecursion as All}
+use Rattle.std.specs.List.{AllByRecursion}
 use Rattle.std.proofs.lemmas.List.{length-append, map-append}
 use Rattle.std.proofs.lemmas.Bool.{both_ways, cases_Bool, cond-true, cond-false, eqb-true, eq-eqb, ne_eqb, or_cases, or_parts, or_left, or_right, or_from}
 use Rattle.std.proofs.lemmas.Bool.Decides.{nat_tests}
@@ -217,14 +217,14 @@ place_universal ds v k d (low, high, at) =
 pub record LawfulPrefix (known : ℕ) (prefix : List Declaration) : Type 0 where
   pub few_universals : length (universals_of prefix) ≤ 64
   pub few_existentials : length (existentials_of prefix) ≤ 4096
-  pub in_range : All (λ d. (1 ≤ variable_of d) × (variable_of d ≤ known)) prefix
+  pub in_range : AllByRecursion (λ d. (1 ≤ variable_of d) × (variable_of d ≤ known)) prefix
   pub once : Distinct (map variable_of prefix)
 
-all_front : {X : Type 0} (P : X → Type 0) (xs ys : List X) → All P (xs ++ ys) → All P xs
+all_front : {X : Type 0} (P : X → Type 0) (xs ys : List X) → AllByRecursion P (xs ++ ys) → AllByRecursion P xs
 all_front P [] ys h = tt
 all_front P (x ∷ xs) ys (p, h) = (p, all_front P xs ys h)
 
-all_next : {X : Type 0} (P : X → Type 0) (xs : List X) (y : X) (ys : List X) → All P (xs ++ y ∷ ys) → P y
+all_next : {X : Type 0} (P : X → Type 0) (xs : List X) (y : X) (ys : List X) → AllByRecursion P (xs ++ y ∷ ys) → P y
 all_next P [] y ys (p, h) = p
 all_next P (x ∷ xs) y ys (p, h) = all_next P xs y ys h
 

@@ -1,6 +1,6 @@
 -- What a word is, by what reading it answers; and no word of a text is a negative 0.
 use Rattle.std.proofs.Common.{◌≡◌, ℕ, zero, suc, ◌+◌, Bool, true, false, cond, eqb, List, [], ◌∷◌, take, drop, Some, None, Ok, Err, Option, Result, refl, ap, ◌∙◌, ap₂, arith}
-use Rattle.std.specs.List.{AllByRecursion as All}
+use Rattle.std.specs.List.{AllByRecursion}
 use Rattle.std.proofs.lemmas.Bool.{and_from, and_parts, cond_both, cond-false, cond-true, eq-eqb, eqb-false, eqb-true}
 use Rattle.base.specs.Causes.{Refusal}
 use Rattle.words.specs.declared.forms.Numeral.{Numeral}
@@ -38,16 +38,16 @@ classed_proper : (o : Option Numeral) (bs : List ℕ) (p : ℕ) → Sound o → 
 classed_proper (Some n) bs p h = h
 classed_proper None bs p h = cond_both (letters bs) (letter bs p) (other bs p) Proper (λ e. tt) (λ e. tt)
 
-cut_proper : (skip : ℕ) (bs : List ℕ) (p : ℕ) → All Proper (cut skip bs p)
+cut_proper : (skip : ℕ) (bs : List ℕ) (p : ℕ) → AllByRecursion Proper (cut skip bs p)
 cut_proper skip [] p = tt
 cut_proper (suc k) (b ∷ bs) p = cut_proper k bs (p + 1)
 cut_proper zero (b ∷ bs) p =
     let word = take (inked (b ∷ bs)) (b ∷ bs) in
-    cond_both (blank b) (cut zero bs (p + 1)) (classed word p ∷ cut (inked bs) bs (p + 1)) (All Proper)
+    cond_both (blank b) (cut zero bs (p + 1)) (classed word p ∷ cut (inked bs) bs (p + 1)) (AllByRecursion Proper)
     (λ e. cut_proper zero bs (p + 1))
     (λ e. (classed_proper (numeral_value word) word p (numeral_sound word), cut_proper (inked bs) bs (p + 1)))
 
-pub words_proper : (text : List ℕ) (p : ℕ) → All Proper (words_from text p)
+pub words_proper : (text : List ℕ) (p : ℕ) → AllByRecursion Proper (words_from text p)
 words_proper text p = cut_proper 0 (drop p text) p
 
 -- a reading that answers

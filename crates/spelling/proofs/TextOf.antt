@@ -1,6 +1,6 @@
 -- A text for any list of tokens: its words are these tokens.
 use Rattle.std.proofs.Common.{◌≡◌, ℕ, suc, ◌+◌, ◌^◌, ◌<◌, ◌≤◌, Bool, true, false, cond, not, ◌&&◌, ◌||◌, eqb, ltb, List, [], ◌∷◌, ◌++◌, map, length, take, drop, Some, None, sym, refl, ap, ◌∙◌, ap₂, one-add, arith}
-use Rattle.std.specs.List.{AllByRecursion as All}
+use Rattle.std.specs.List.{AllByRecursion}
 use Rattle.std.proofs.lemmas.List.{take_at, drop_at, append_assoc, length-append}
 use Rattle.std.proofs.ByRecursion.{All-append, All-weaker, All-map}
 use Rattle.std.proofs.lemmas.Bool.{cond-true, cond-false, and_left, and_right}
@@ -22,9 +22,9 @@ placed p (t ∷ ts) = classed t p ∷ placed (p + length t + 1) ts
 
 -- the bytes of a word: some, and no blanks
 abbrev pub Inked : List ℕ → Type 0
-Inked t = (0 < length t) × All (λ b. blank b ≡ false) t
+Inked t = (0 < length t) × AllByRecursion (λ b. blank b ≡ false) t
 
-inked_token : (t rest : List ℕ) → All (λ b. blank b ≡ false) t → inked (t ++ (32 ∷ rest)) ≡ length t
+inked_token : (t rest : List ℕ) → AllByRecursion (λ b. blank b ≡ false) t → inked (t ++ (32 ∷ rest)) ≡ length t
 inked_token [] rest h = refl
 inked_token (b ∷ t) rest h = ap (λ x. cond (not x) (1 + inked (t ++ (32 ∷ rest))) 0) h.0 ∙ one-add (inked (t ++ (32 ∷ rest))) ∙ ap suc (inked_token t rest h.1)
 
@@ -37,14 +37,14 @@ cut_token t rest p h =
     ∙ ap (λ k. classed (take k bs) p ∷ cut 0 (drop k bs) (p + k)) long
     ∙ ap₂ (λ w l. classed w p ∷ cut 0 l (p + length t)) (take_at t (32 ∷ rest) (length t) refl) (drop_at t (32 ∷ rest) (length t) refl)
 
-pub cut_text_of : (ts : List (List ℕ)) (p : ℕ) → All Inked ts → cut 0 (text_of ts) p ≡ placed p ts
+pub cut_text_of : (ts : List (List ℕ)) (p : ℕ) → AllByRecursion Inked ts → cut 0 (text_of ts) p ≡ placed p ts
 cut_text_of [] p h = refl
 cut_text_of (t ∷ ts) p h = cut_token t (text_of ts) p h.0 ∙ ap (λ ws. classed t p ∷ ws) (cut_text_of ts (p + length t + 1) h.1)
 
-pub words_text_of : (ts : List (List ℕ)) → All Inked ts → words_from (text_of ts) 0 ≡ placed 0 ts
+pub words_text_of : (ts : List (List ℕ)) → AllByRecursion Inked ts → words_from (text_of ts) 0 ≡ placed 0 ts
 words_text_of ts h = cut_text_of ts 0 h
 
-pub bytes_text_of : (ts : List (List ℕ)) → All (λ t. All (λ b. b < 256) t) ts → All (λ b. b < 256) (text_of ts)
+pub bytes_text_of : (ts : List (List ℕ)) → AllByRecursion (λ t. AllByRecursion (λ b. b < 256) t) ts → AllByRecursion (λ b. b < 256) (text_of ts)
 bytes_text_of [] h = tt
 bytes_text_of (t ∷ ts) h = All-append (λ b. b < 256) t (32 ∷ text_of ts) h.0 (omega arith, bytes_text_of ts h.1)
 
@@ -71,7 +71,7 @@ token_bytes (num s n) = signed_bytes s n
 
 -- some letters from a to z, or a number of at most nine digits that is not 0 behind a minus
 abbrev pub Good : Token → Type 0
-Good (name bs) = (0 < length bs) × All (λ b. letter_byte b ≡ true) bs
+Good (name bs) = (0 < length bs) × AllByRecursion (λ b. letter_byte b ≡ true) bs
 Good (num s n) = (n < 10 ^ 9) × (s ≡ true → 0 < n)
 
 -- the word that a token makes at a place
@@ -96,12 +96,12 @@ letter_no_digit b e = let h = letter_low b e in grind (arith, nat_tests)
 letter_no_minus : (b : ℕ) → letter_byte b ≡ true → eqb b 45 ≡ false
 letter_no_minus b e = let h = letter_low b e in grind (arith, nat_tests)
 
-all_letters : (bs : List ℕ) → All (λ b. letter_byte b ≡ true) bs → letters bs ≡ true
+all_letters : (bs : List ℕ) → AllByRecursion (λ b. letter_byte b ≡ true) bs → letters bs ≡ true
 all_letters [] h = refl
 all_letters (b ∷ bs) h = ap₂ ◌&&◌ h.0 (all_letters bs h.1)
 
 -- letters are no numeral
-pub numeral_letters : (bs : List ℕ) → 0 < length bs → All (λ b. letter_byte b ≡ true) bs → numeral_value bs ≡ None
+pub numeral_letters : (bs : List ℕ) → 0 < length bs → AllByRecursion (λ b. letter_byte b ≡ true) bs → numeral_value bs ≡ None
 numeral_letters [] z h = absurd (omega arith)
 numeral_letters (b ∷ bs) z h =
     let no_digits : digits (b ∷ bs) ≡ false = and_left (digit_byte b) (digits bs) (letter_no_digit b h.0) in
@@ -118,11 +118,11 @@ pub inked_token_bytes : (t : Token) → Good t → Inked (token_bytes t)
 inked_token_bytes (name bs) h = (h.0, All-weaker (λ b. letter_byte b ≡ true) (λ b. blank b ≡ false) letter_no_blank bs h.1)
 inked_token_bytes (num s n) h = inked_signed s n h.0
 
-low_signed : (s : Bool) (n : ℕ) → n < 10 ^ 9 → All (λ b. b < 256) (signed_bytes s n)
+low_signed : (s : Bool) (n : ℕ) → n < 10 ^ 9 → AllByRecursion (λ b. b < 256) (signed_bytes s n)
 low_signed false n h = decimal_bytes_low n h
 low_signed true n h = (omega arith, decimal_bytes_low n h)
 
-pub low_token_bytes : (t : Token) → Good t → All (λ b. b < 256) (token_bytes t)
+pub low_token_bytes : (t : Token) → Good t → AllByRecursion (λ b. b < 256) (token_bytes t)
 low_token_bytes (name bs) h = All-weaker (λ b. letter_byte b ≡ true) (λ b. b < 256) (λ b e. omega (arith, letter_low b e)) bs h.1
 low_token_bytes (num s n) h = low_signed s n h.0
 
@@ -134,15 +134,15 @@ pub classed_token : (p : ℕ) (t : Token) → Good t → classed (token_bytes t)
 classed_token p (name bs) h = ap (λ o. classed_by o bs p) (numeral_letters bs h.0 h.1) ∙ cond-true (letters bs) (letter bs p) (other bs p) (all_letters bs h.1)
 classed_token p (num s n) h = ap (λ o. classed_by o (signed_bytes s n) p) (numeral_signed s n h.0 h.1)
 
-pub placed_spelt : (p : ℕ) (ts : List Token) → All Good ts → placed p (map token_bytes ts) ≡ spelt p ts
+pub placed_spelt : (p : ℕ) (ts : List Token) → AllByRecursion Good ts → placed p (map token_bytes ts) ≡ spelt p ts
 placed_spelt p [] h = refl
 placed_spelt p (t ∷ ts) h = ap₂ ◌∷◌ (classed_token p t h.0) (placed_spelt (p + length (token_bytes t) + 1) ts h.1)
 
-pub words_of_tokens : (ts : List Token) → All Good ts → words_from (text_of (map token_bytes ts)) 0 ≡ spelt 0 ts
+pub words_of_tokens : (ts : List Token) → AllByRecursion Good ts → words_from (text_of (map token_bytes ts)) 0 ≡ spelt 0 ts
 words_of_tokens ts h = words_text_of (map token_bytes ts) (All-map Inked token_bytes ts (All-weaker Good (λ t. Inked (token_bytes t)) inked_token_bytes ts h)) ∙ placed_spelt 0 ts h
 
-pub bytes_of_tokens : (ts : List Token) → All Good ts → All (λ b. b < 256) (text_of (map token_bytes ts))
-bytes_of_tokens ts h = bytes_text_of (map token_bytes ts) (All-map (λ t. All (λ b. b < 256) t) token_bytes ts (All-weaker Good (λ t. All (λ b. b < 256) (token_bytes t)) low_token_bytes ts h))
+pub bytes_of_tokens : (ts : List Token) → AllByRecursion Good ts → AllByRecursion (λ b. b < 256) (text_of (map token_bytes ts))
+bytes_of_tokens ts h = bytes_text_of (map token_bytes ts) (All-map (λ t. AllByRecursion (λ b. b < 256) t) token_bytes ts (All-weaker Good (λ t. AllByRecursion (λ b. b < 256) (token_bytes t)) low_token_bytes ts h))
 
 -- the words of tokens in two parts
 pub spelt_append : (p : ℕ) (ts us : List Token) → spelt p (ts ++ us) ≡ spelt p ts ++ spelt (p + length (text_of (map token_bytes ts))) us
@@ -153,5 +153,5 @@ spelt_append p (t ∷ ts) us =
     ∙ ap (λ q. spelt (p + length (token_bytes t) + 1) ts ++ spelt q us) (omega (arith, length_text_of (token_bytes t) (map token_bytes ts))))
 
 -- some text has the words of these tokens
-pub some_text : (ts : List Token) → All Good ts → (text : List ℕ) × (All (λ b. b < 256) text) × (words_from text 0 ≡ spelt 0 ts)
+pub some_text : (ts : List Token) → AllByRecursion Good ts → (text : List ℕ) × (AllByRecursion (λ b. b < 256) text) × (words_from text 0 ≡ spelt 0 ts)
 some_text ts h = (text_of (map token_bytes ts), bytes_of_tokens ts h, words_of_tokens ts h)

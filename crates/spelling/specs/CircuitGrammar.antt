@@ -1,6 +1,6 @@
 -- Circuits of and-gates, and the grammar of circuit texts as a relation between words and circuits.
 use Rattle.std.specs.Prelude.{ℕ, zero, suc, ◌+◌, ◌*◌, ◌<◌, ◌≤◌, List, [], ◌∷◌, ◌++◌, length, codes}
-use Rattle.std.specs.List.{AllByRecursion as All}
+use Rattle.std.specs.List.{AllByRecursion}
 use Rattle.words.specs.Words.{Spelt}
 use Rattle.circuit.specs.declared.tables.Gate.{Gate}
 use Rattle.spelling.specs.FormulaGrammar.{Name, Number}
@@ -26,7 +26,7 @@ pub record LawfulCircuit (c : Aig) : Type 0 where
   pub few_inputs : c.inputs ≤ 64
   pub few_outputs : length c.outputs ≤ 4096
   pub few_wires : wires_of c ≤ 60000
-  pub outputs : All (λ o. o ≤ 2 * wires_of c + 1) c.outputs
+  pub outputs : AllByRecursion (λ o. o ≤ 2 * wires_of c + 1) c.outputs
   pub ordered : OrderedFrom c.inputs c.gates
 
 -- the literals of n inputs, the first being number i

@@ -1,6 +1,6 @@
 -- Dependency quantified Boolean formulas: a prefix of declarations and a matrix of clauses.
 use Rattle.std.specs.Prelude.{◌≡◌, ℕ, ◌+◌, ◌≤◌, Bool, true, false, cond, ◌||◌, List, [], ◌∷◌, ◌++◌, map, length, ◌==◌}
-use Rattle.std.specs.List.{AllByRecursion as All}
+use Rattle.std.specs.List.{AllByRecursion}
 use Rattle.base.specs.declared.values.ValueWord.{ValueWord}
 use Rattle.base.specs.Words.{empty_word}
 use Rattle.formula.specs.declared.tables.Clause.{Clause}
@@ -54,7 +54,7 @@ literal_variable l = l.variable
 -- a clause over declared variables, none of which it names twice
 abbrev pub LawfulClause : List ℕ → List Literal → Type 0
 LawfulClause declared c =
-    (length c ≤ 1024) × Distinct (map literal_variable c) × All (λ l. member l.variable declared ≡ true) c
+    (length c ≤ 1024) × Distinct (map literal_variable c) × AllByRecursion (λ l. member l.variable declared ≡ true) c
 
 -- A formula within the limits: at most 65,535 variables, 16,384 clauses, 64 universals, 4,096 existentials and
 -- 1,024 literals a clause; no variable is declared twice, and clauses name declared variables, each once.
@@ -64,9 +64,9 @@ pub record Lawful (f : Dqbf) : Type 0 where
   pub few_clauses : length f.matrix ≤ 16384
   pub few_universals : length (universals_of f.prefix) ≤ 64
   pub few_existentials : length (existentials_of f.prefix) ≤ 4096
-  pub in_range : All (λ d. (1 ≤ variable_of d) × (variable_of d ≤ f.variables)) f.prefix
+  pub in_range : AllByRecursion (λ d. (1 ≤ variable_of d) × (variable_of d ≤ f.variables)) f.prefix
   pub once : Distinct (map variable_of f.prefix)
-  pub clauses : All (LawfulClause (map variable_of f.prefix)) f.matrix
+  pub clauses : AllByRecursion (LawfulClause (map variable_of f.prefix)) f.matrix
 
 -- the record of variable v, where n universals and e existentials were declared before
 abbrev pub record_from : ℕ → ℕ → ℕ → List Declaration → Variable

@@ -1,6 +1,6 @@
 -- The grammar of formula texts, as a relation between words and formulas.
 use Rattle.std.specs.Prelude.{◌≡◌, ℕ, ◌-◌, ◌^◌, ◌<◌, Bool, true, false, ◌&&◌, List, [], ◌∷◌, ◌++◌, map, length, codes, nat_le, slice_index}
-use Rattle.std.specs.List.{AllByRecursion as All}
+use Rattle.std.specs.List.{AllByRecursion}
 use Rattle.base.specs.declared.values.ValueWord.{ValueWord}
 use Rattle.base.specs.Words.{has_bit, first_word}
 use Rattle.words.specs.Words.{Spelt, letter, number, other}
@@ -30,7 +30,7 @@ pub data Listing : List Spelt → List ℕ → List Spelt → Type 0 where
 -- A set of dependencies that has exactly the positions of these universals.
 pub record Depends (universals us : List ℕ) (d : ValueWord) : Type 0 where
   pub distinct : Distinct us
-  pub declared : All (λ u. member u universals ≡ true) us
+  pub declared : AllByRecursion (λ u. member u universals ≡ true) us
   pub bound : d.bits < 2 ^ 64
   pub positions : (k : ℕ) → has_bit d k ≡ (nat_le 1 k && nat_le k (length universals) && member (slice_index universals (k - 1)) us)
 

@@ -1,5 +1,5 @@
 -- Texts that spell a formula or a circuit, and the rows of code that hold them.
-use Rattle.std.specs.Prelude.{◌≡◌, ℕ, ◌≤◌, List, length, Ok, Err, vec_items, Result}
+use Rattle.std.specs.Prelude.{ℕ, ◌≤◌, List, length, Ok, Err, vec_items, Result}
 use Rattle.base.specs.declared.faults.Fault.{Fault}
 use Rattle.base.specs.Causes.{Refusal, told}
 use Rattle.words.specs.Words.{Spelt, words_from}

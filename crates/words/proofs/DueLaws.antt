@@ -3,7 +3,7 @@ use Rattle.std.proofs.Common.{◌≡◌, ℕ, List, [], ◌∷◌, Ok, Err, Resu
 use Rattle.base.specs.Causes.{Refusal}
 use Rattle.words.specs.declared.forms.Numeral.{Numeral}
 use Rattle.words.specs.Words.{Spelt, start_of, end_of}
-use Rattle.words.specs.Due.{Got, and_then, number_in, literal_in, number_from, literal_from, text_ends}
+use Rattle.words.specs.Due.{and_then, number_in, literal_in, number_from, literal_from, text_ends}
 
 and_then_assoc : {X Y Z : Type 0} (r : Result X Refusal) (f : X → Result Y Refusal) (g : Y → Result Z Refusal) → and_then (and_then r f) g ≡ and_then r (λ x. and_then (f x) g)
 and_then_assoc (Ok x) f g = refl

@@ -1,5 +1,5 @@
 -- Tables that are filled from the front, and the rest of a table that is handed on.
-use Rattle.std.proofs.Common.{◌≡◌, ℕ, ◌+◌, ◌-◌, ◌≤◌, List, [], ◌∷◌, ◌++◌, length, take, drop, set, replicate, sym, refl, ap, ◌∙◌, append-nil, arith, length-append}
+use Rattle.std.proofs.Common.{◌≡◌, ℕ, ◌+◌, ◌-◌, ◌≤◌, List, ◌++◌, length, take, drop, set, replicate, sym, ap, ◌∙◌, append-nil, arith, length-append}
 use lib.ListN.{length-replicate}
 use lib.Seq.{take-append-add, drop-append_seam}
 use borrow.Rule.Slice.PartMut.{put_mid}

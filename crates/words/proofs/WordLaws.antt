@@ -1,10 +1,10 @@
 -- The words from a place, by the first of them.
-use Rattle.std.proofs.Common.{◌≡◌, ℕ, zero, suc, ◌+◌, ◌-◌, ◌<◌, ◌≤◌, Bool, true, false, cond, not, eqb, leb, List, [], ◌∷◌, ◌++◌, length, get_or, take, drop, Some, None, Ok, Err, Option, sym, refl, ap, ◌∙◌, subst, ap₂, ⊎_elim, add-zero, one-add, arith}
+use Rattle.std.proofs.Common.{◌≡◌, ℕ, zero, suc, ◌+◌, ◌-◌, ◌<◌, Bool, true, false, cond, not, List, [], ◌∷◌, length, take, drop, Some, None, Option, sym, refl, ap, ◌∙◌, ap₂, ⊎_elim, add-zero, one-add, arith}
 use Rattle.std.proofs.lemmas.List.{drop-drop}
 use Rattle.std.proofs.lemmas.Bool.{cases_Bool}
 use Rattle.words.specs.declared.forms.Numeral.{Numeral}
 use Rattle.words.specs.Forms.{blank, letters, numeral_value}
-use Rattle.words.specs.Words.{Spelt, letter, number, other, blanks, inked, classed, classed_by, cut, words_from, end_of}
+use Rattle.words.specs.Words.{letter, other, blanks, inked, classed, classed_by, cut, words_from, end_of}
 
 cut_skip : (k : ℕ) (bs : List ℕ) (p : ℕ) → cut k bs p ≡ cut 0 (drop k bs) (p + k)
 cut_skip zero bs p = ap (cut 0 bs) (omega arith)

@@ -1,4 +1,4 @@
-use Rattle.replay.proofs.ReplayLaws.{Reported, replays}
+use Rattle.replay.proofs.ReplayLaws.{replays}
 use Rattle.replay.proofs.replay.replay_on.Goals as goal
 
 pub returns : goal.returns

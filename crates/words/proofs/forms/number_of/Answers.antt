@@ -1,4 +1,4 @@
-use Rattle.std.proofs.Common.{◌≡◌, ◌<◌, ◌≤◌, true, false, sym, ◌∙◌, arith, rules}
+use Rattle.std.proofs.Common.{◌≡◌, true, false, sym, ◌∙◌, arith, rules}
 use Rattle.std.proofs.lemmas.List.{at_drop_all}
 use Rattle.words.specs.Forms.{digits, decimal}
 use Rattle.words.proofs.FormLaws.{digits_low, digits_high, digits_more, decimal_more, digit_fits, few_digits}
