@@ -121,7 +121,7 @@ fn lawful_clause(
     stamp: u16,
     literals: &[Literal],
 ) -> bool
-    requires { (known ≤ length vars.now) × ((known < length marks.old) × (((v : ℕ) → slice_index marks.old v < stamp))) }
+    requires { (known ≤ length vars.now) × ((known < length marks.old) × ((v : ℕ) → slice_index marks.old v < stamp)) }
     ensures is { result ≡ clause_lawful known vars.now [] literals.now }
     ensures marked { (v : ℕ) → slice_index marks.new v ≤ stamp }
 {

@@ -2,7 +2,6 @@
 ghost use Rattle.clauses.specs.Worlds.{same_entry, complement_entry};
 ghost use Rattle.clauses.specs.EntryLaws.{same_itself, same_back, same_through};
 ghost use Rattle.clauses.specs.EntryLaws;
-ghost use Rattle.std.proofs.Common.{rules};
 
 use super::literal::{Alike, Literal};
 use base::values::ValueWord;
@@ -37,7 +36,7 @@ impl Literal for Entry {
 
     ghost apart = { EntryLaws.apart };
 
-    ghost one = { Prim.search rules };
+    ghost one = { λ w x. w.one x };
 
     fn entry(&self) -> Entry {
         *self

@@ -1,5 +1,5 @@
 -- What the verdicts of the two sides say of the formula.
-use Rattle.std.specs.Prelude.{◌≡◌, ℕ, ◌≤◌, true, List, [], Ok}
+use Rattle.std.specs.Prelude.{◌≡◌, ℕ, ◌≤◌, true, List, [], length, Ok}
 use Rattle.std.proofs.Common.{arith}
 use Rattle.std.proofs.lemmas.Bool.{false≢true}
 use Rattle.clauses.specs.Worlds.{true_in}
@@ -35,7 +35,14 @@ truth_few t = omega arith
 pub truth_conclusion : (t : RowsOfFormula) (u : RowsOfCircuit) → truth_opening t u ≡ Ok tt → ((g : ℕ) → 1 ≤ g → g ≤ goal_number t → (m : Inputs) → true_in (circuit_world (aig_of u) m) (goal_clause t u.head.wires g) ≡ true) → SaysTrue t u
 truth_conclusion t u o h = right_circuits t u o h
 
--- where the empty clause is true in every model there is none
-pub falsity_conclusion : (t : RowsOfFormula) → ((m : Model t) → true_in (model_world t m) [] ≡ true) → SaysFalse t
+-- where the empty clause, the one goal, is true in every model there is none
+pub falsity_conclusion : (t : RowsOfFormula) → ((g : ℕ) → 1 ≤ g → g ≤ 1 → (m : Model t) → true_in (model_world t m) [] ≡ true) → SaysFalse t
 falsity_conclusion t h f held F is =
-    false≢true (h (record { formula = f; held = held; functions = F; is_model = is }))
+    false≢true (h 1 (omega arith) (omega arith) (record { formula = f; held = held; functions = F; is_model = is }))
+
+-- what the falsity side promises of its one goal
+pub falsity_few : 1 ≤ 16384
+falsity_few = omega arith
+
+pub falsity_brief : length {A = Entry} [] ≤ 1024
+falsity_brief = omega arith

@@ -1,11 +1,10 @@
 // The falsity side: a formula is refuted by resolution over the instances of its clauses.
 ghost use Rattle.std.specs.Prelude.{[]};
-ghost use Rattle.std.proofs.Common.{arith};
 ghost use Rattle.expansion.specs.Instances.{falsity_admits, falsity_claim, falsity_opening};
 ghost use Rattle.expansion.specs.ModelWorlds.{Model as FormulaModel, model_world};
 ghost use Rattle.expansion.proofs.InstanceLaws.{claim_true, claim_short};
 ghost use Rattle.models.specs.HeldTables.{formula_rows};
-ghost use Rattle.sides.specs.Meanings.{SaysFalse, falsity_conclusion};
+ghost use Rattle.sides.specs.Meanings.{SaysFalse, falsity_conclusion, falsity_few, falsity_brief};
 ghost use Rattle.sides.specs.SideRules.{falsity_rules};
 
 use base::faults::{Cause, Fault, Layer};
@@ -41,15 +40,15 @@ impl<'a> Side for FalsitySide<'a> {
 
     ghost Meaning = { λ s. SaysFalse (formula_rows s.formula) };
 
-    ghost conclusion = { λ s o h. falsity_conclusion (formula_rows s.formula) (h 1 (omega arith) (omega arith)) };
+    ghost conclusion = { λ s o h. falsity_conclusion (formula_rows s.formula) h };
 
     ghost truthful = { λ s o p c e m. claim_true (formula_rows s.formula) p c e m };
 
-    ghost few = { λ s. omega arith };
+    ghost few = { λ s. falsity_few };
 
     ghost short = { λ s p c e. claim_short (formula_rows s.formula) p c e };
 
-    ghost brief = { λ s g. omega arith };
+    ghost brief = { λ s g. falsity_brief };
 
     fn open(&self) -> Result<(), Fault> {
         if self.formula.is_lawful() {

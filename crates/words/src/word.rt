@@ -30,7 +30,7 @@ fn skip_blanks(text: &[u8], place: usize) -> usize
 
 fn word_end(text: &[u8], place: usize) -> usize
     ensures is { result ≡ place + inked (drop place text.now) }
-    ensures within { (place ≤ result) × ((place < result → result ≤ length text.now)) }
+    ensures within { (place ≤ result) × (place < result → result ≤ length text.now) }
 {
     let mut at = place;
     while at < text.len() && !is_blank(text[at]) {

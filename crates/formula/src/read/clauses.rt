@@ -62,7 +62,7 @@ fn read_clause(
     stamp: u16,
     rest: &mut [Literal],
 ) -> Result<usize, Fault>
-    requires { (known ≤ length vars.now) × ((known < length marks.old) × (((v : ℕ) → slice_index marks.old v < stamp))) }
+    requires { (known ≤ length vars.now) × ((known < length marks.old) × ((v : ℕ) → slice_index marks.old v < stamp)) }
     ensures is { told_clause result rest.new (words_from text.now place.new.at) place.new.at ≡ clause_from known vars.now [] (words_from text.now place.old.at) (length rest.old) (length text.now) }
     ensures kept { IfOk result (λ n. (n ≤ 1024) × (n ≤ length rest.old) × Kept n rest.old rest.new) }
     ensures marked { OnOk result ((v : ℕ) → slice_index marks.new v ≤ stamp) }
