@@ -3,7 +3,7 @@ ghost use Rattle.std.specs.Prelude.{◌≡◌};
 ghost use Rattle.base.specs.Words.{empty_word, first_word, single_word, union_word, common_word, has_bit, within_word, equal_words};
 
 // The bit worth 2^(k-1) belongs to universal position k.
-#[derive(Clone, Copy, PartialEq, Eq, Debug)]
+#[derive(Clone, Copy, PartialEq, Eq, Debug, Default)]
 pub struct ValueWord {
     pub bits: u64,
 }
@@ -79,6 +79,6 @@ impl ValueWord {
     pub fn equals(self, other: ValueWord) -> bool
         ensures { result ≡ equal_words self other }
     {
-        self.bits == other.bits
+        self == other
     }
 }

@@ -10,7 +10,7 @@ pub struct CircuitHead {
 }
 
 // The two right literals of a gate, which is true exactly if both are.
-#[derive(Clone, Copy, PartialEq, Eq, Debug)]
+#[derive(Clone, Copy, PartialEq, Eq, Debug, Default)]
 pub struct Gate {
     pub left: u32,
     pub right: u32,

@@ -7,7 +7,7 @@ use super::literal::{Alike, Literal};
 use base::values::ValueWord;
 
 // A literal's code, 2y or 2y + 1 for y and its complement, and its values.
-#[derive(Clone, Copy, PartialEq, Eq, Debug)]
+#[derive(Clone, Copy, PartialEq, Eq, Debug, Default)]
 pub struct Entry {
     pub code: u32,
     pub values: ValueWord,

@@ -8,9 +8,8 @@ ghost use Rattle.formula.specs.Reading.{header_from, formula_from, head_read, Ag
 
 use self::clauses::read_clauses;
 use self::groups::read_groups;
-use super::tables::{Clause, Head, Kind, Literal, Variable};
+use super::tables::{Clause, Head, Literal, Variable};
 use base::faults::{Cause, Fault, Layer};
-use base::values::ValueWord;
 use words::due::{read_name, read_number};
 use words::place::{KeptPlace, Place};
 use words::word::LONGEST_TEXT;
@@ -90,16 +89,9 @@ fn read_into(
 fn clear(vars: &mut [Variable], clauses: &mut [Clause], literals: &mut [Literal])
     ensures { (vars.new ≡ replicate (length vars.old) no_variable) × ((clauses.new ≡ replicate (length clauses.old) no_span) × (literals.new ≡ replicate (length literals.old) no_literal)) }
 {
-    vars.fill(Variable {
-        kind: Kind::Undeclared,
-        position: 0,
-        dependencies: ValueWord { bits: 0 },
-    });
-    clauses.fill(Clause { first: 0, len: 0 });
-    literals.fill(Literal {
-        variable: 0,
-        negative: false,
-    });
+    vars.fill(Variable::default());
+    clauses.fill(Clause::default());
+    literals.fill(Literal::default());
 }
 
 // Reads a formula from the place on. Accepted, the tables hold it and are zero behind it, and the place is behind

@@ -2,8 +2,9 @@
 use base::values::ValueWord;
 
 // How a variable is quantified.
-#[derive(Clone, Copy, PartialEq, Eq, Debug)]
+#[derive(Clone, Copy, PartialEq, Eq, Debug, Default)]
 pub enum Kind {
+    #[default]
     Undeclared,
     Universal,
     Existential,
@@ -11,7 +12,7 @@ pub enum Kind {
 
 // A variable's record: its kind, its position among those of its kind, from 1, and the universals that it may
 // depend on. Variable v has index v - 1.
-#[derive(Clone, Copy, PartialEq, Eq, Debug)]
+#[derive(Clone, Copy, PartialEq, Eq, Debug, Default)]
 pub struct Variable {
     pub kind: Kind,
     pub position: u32,
@@ -19,14 +20,14 @@ pub struct Variable {
 }
 
 // Where a clause's literals stand in the literal table.
-#[derive(Clone, Copy, PartialEq, Eq, Debug)]
+#[derive(Clone, Copy, PartialEq, Eq, Debug, Default)]
 pub struct Clause {
     pub first: u32,
     pub len: u32,
 }
 
 // A variable or its negation.
-#[derive(Clone, Copy, PartialEq, Eq, Debug)]
+#[derive(Clone, Copy, PartialEq, Eq, Debug, Default)]
 pub struct Literal {
     pub variable: u32,
     pub negative: bool,

@@ -1,7 +1,6 @@
-use Rattle.std.proofs.Common.{refl}
 use Rattle.base.specs.Words.{equal_words}
 use Rattle.base.proofs.values.ValueWord.equals.Goals as goal
 
 pub returns : goal.returns
 unfolding equal_words
-returns c = refl
+returns c = c.eq.ensures
