@@ -10,6 +10,7 @@ pub struct ValueWord {
 
 impl ValueWord {
     // No position.
+    #[tactic(auto, unfolding(crate::specs::Words::empty_word))]
     pub fn empty() -> Self
         ensures { result ≡ empty_word }
     {
@@ -17,6 +18,7 @@ impl ValueWord {
     }
 
     // The positions 1 to n, or all 64 where n is larger.
+    #[tactic(auto, unfolding(crate::specs::Words::first_word))]
     pub fn first(n: u32) -> Self
         ensures { result ≡ first_word n }
     {
@@ -29,6 +31,7 @@ impl ValueWord {
     }
 
     // Position k alone, or none where k is no position.
+    #[tactic(auto, unfolding(crate::specs::Words::single_word))]
     pub fn single(k: u32) -> Self
         ensures { result ≡ single_word k }
     {
@@ -41,6 +44,7 @@ impl ValueWord {
     }
 
     // The positions in either word.
+    #[tactic(auto, unfolding(crate::specs::Words::union_word))]
     pub fn union(self, other: ValueWord) -> Self
         ensures { result ≡ union_word self other }
     {
@@ -50,6 +54,7 @@ impl ValueWord {
     }
 
     // The positions in both words.
+    #[tactic(auto, unfolding(crate::specs::Words::common_word))]
     pub fn intersection(self, other: ValueWord) -> Self
         ensures { result ≡ common_word self other }
     {
@@ -76,6 +81,7 @@ impl ValueWord {
     }
 
     // Whether both words have the same positions.
+    #[tactic(auto, unfolding(crate::specs::Words::equal_words))]
     pub fn equals(self, other: ValueWord) -> bool
         ensures { result ≡ equal_words self other }
     {
