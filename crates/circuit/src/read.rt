@@ -5,7 +5,7 @@ ghost use Rattle.words.specs.Words.{words_from};
 ghost use Rattle.words.specs.Due.{got};
 ghost use Rattle.circuit.specs.Reading.{exact_from, below_from, count_from, at_most, header_from, inputs_from, outputs_from, gate_from, gates_from, told_table, told_circuit, Filled, circuit_from, head_read, outputs_read, gates_read, place_read, no_gate, Agrees};
 
-use super::tables::{CircuitHead, Gate, MOST_INPUTS, MOST_OUTPUTS, MOST_WIRES};
+use super::tables::{CircuitHead, Gate, MAX_INPUTS, MAX_OUTPUTS, MAX_WIRES};
 use base::faults::{Cause, Fault, Layer};
 use words::due::{read_name, read_number};
 use words::place::{KeptPlace, Place};
@@ -52,22 +52,22 @@ fn read_header(
     gate_room: usize,
 ) -> Result<CircuitHead, Fault>
     ensures is { got result (words_from text.now place.new.at) place.new.at ≡ header_from (words_from text.now place.old.at) output_room gate_room (length text.now) }
-    ensures wires { IfOk result (λ h. h.wires ≤ MOST_WIRES) }
-    ensures inputs { IfOk result (λ h. h.inputs ≤ MOST_INPUTS) }
+    ensures wires { IfOk result (λ h. h.wires ≤ MAX_WIRES) }
+    ensures inputs { IfOk result (λ h. h.inputs ≤ MAX_INPUTS) }
     ensures output_room { IfOk result (λ h. h.outputs ≤ output_room) }
     ensures gate_room { IfOk result (λ h. h.gates ≤ gate_room) }
     ensures sum { IfOk result (λ h. h.wires ≡ h.inputs + h.gates) }
 {
     read_name(text, place, b"aag")?;
-    let wires = read_count(text, place, MOST_WIRES)?;
-    let inputs = read_count(text, place, MOST_INPUTS)?;
+    let wires = read_count(text, place, MAX_WIRES)?;
+    let inputs = read_count(text, place, MAX_INPUTS)?;
     // There are no latches.
     read_count(text, place, 0)?;
     let (outputs, at) = read_number(text, place)?;
     if outputs as usize > output_room {
         return Err(Layer::Circuit.fault(Cause::TableShort, at));
     }
-    if outputs > MOST_OUTPUTS {
+    if outputs > MAX_OUTPUTS {
         return Err(Layer::Circuit.fault(Cause::CircuitCount, at));
     }
     let (gates, at) = read_number(text, place)?;
@@ -87,7 +87,7 @@ fn read_header(
 
 // Input i is the literal 2i.
 fn read_inputs(text: &[u8], place: &mut Place, inputs: u32) -> Result<(), Fault>
-    requires { inputs ≤ MOST_INPUTS }
+    requires { inputs ≤ MAX_INPUTS }
     ensures { got result (words_from text.now place.new.at) place.new.at ≡ inputs_from inputs 1 (words_from text.now place.old.at) place.old.at (length text.now) }
 {
     for i in 1..=inputs {
@@ -103,7 +103,7 @@ fn read_outputs(
     wires: u32,
     outputs: &mut [u32],
 ) -> Result<(), Fault>
-    requires { wires ≤ MOST_WIRES }
+    requires { wires ≤ MAX_WIRES }
     ensures { told_table result outputs.new (words_from text.now place.new.at) place.new.at ≡ outputs_from wires (length outputs.old) [] (words_from text.now place.old.at) place.old.at (length text.now) }
 {
     for output in outputs.iter_mut() {
@@ -124,7 +124,7 @@ fn read_gate(text: &[u8], place: &mut Place, own: u32) -> Result<Gate, Fault>
 
 // Gate g, counted from 0, has the own literal 2(I + g + 1).
 fn read_gates(text: &[u8], place: &mut Place, inputs: u32, gates: &mut [Gate]) -> Result<(), Fault>
-    requires { inputs + length gates.old ≤ MOST_WIRES }
+    requires { inputs + length gates.old ≤ MAX_WIRES }
     ensures { told_table result gates.new (words_from text.now place.new.at) place.new.at ≡ gates_from inputs (length gates.old) [] (words_from text.now place.old.at) place.old.at (length text.now) }
 {
     for (g, gate) in gates.iter_mut().enumerate() {
