@@ -1,5 +1,5 @@
 -- What the reader of circuit texts answers, by recursion on the counts over the words that are left.
-use Rattle.std.specs.Prelude.{◌≡◌, ℕ, zero, suc, ◌+◌, ◌*◌, ◌≤◌, Bool, cond, not, ltb, List, [], ◌∷◌, ◌++◌, length, take, replicate, Ok, Err, Result, ◌==◌, nat_lt}
+use Rattle.std.specs.Prelude.{◌≡◌, ℕ, zero, suc, ◌+◌, ◌*◌, ◌≤◌, Bool, cond, not, List, [], ◌∷◌, ◌++◌, length, take, replicate, Ok, Err, Result, ◌==◌, nat_lt}
 use Rattle.base.specs.declared.faults.Fault.{Fault}
 use Rattle.base.specs.Causes.{Refusal, told, refused, answered}
 use Rattle.words.specs.Words.{Spelt, words_from}
@@ -38,7 +38,7 @@ header_from ws output_room gate_room size =
     (λ a. and_then (count_from (at_most 60000) a.1 size)
     (λ m. and_then (count_from (at_most 64) m.1 size)
     (λ i. and_then (count_from (at_most 0) i.1 size)
-    (λ l. and_then (count_from (table_count output_room (λ n. ltb 4096 n)) l.1 size)
+    (λ l. and_then (count_from (table_count output_room (λ n. nat_lt 4096 n)) l.1 size)
     (λ o. and_then (count_from (table_count gate_room (λ n. not (m.0 == i.0 + n))) o.1 size)
     (λ g. Ok (record { wires = m.0; inputs = i.0; outputs = o.0; gates = g.0 }, g.1, g.2)))))))
 

@@ -1,4 +1,5 @@
 // The words that a reader asks for: a number, a literal, a name. Each is read or refused.
+// Text and place are two parameters: of one value, each contract would also have to say that both references stay.
 ghost use Rattle.std.specs.Prelude.{◌≡◌, [], ◌∷◌, length, Some, IfOk, IfErr, OnOk, OnErr};
 ghost use Rattle.base.specs.Causes.{told};
 ghost use Rattle.words.specs.Words.{words_from, Onward};

@@ -40,7 +40,7 @@ pub(crate) fn is_over_nine(word: &[u8]) -> bool
 pub(crate) fn number_of(word: &[u8]) -> Option<u32>
     ensures { result ≡ number_value word.now }
 {
-    if word.is_empty() || word.len() > 9 || word.len() > 1 && word[0] == b'0' {
+    if matches!(word, [] | [b'0', _, ..]) || word.len() > 9 {
         return None;
     }
     let mut n = 0;

@@ -36,13 +36,11 @@ fn first_blank(bytes: &[u8]) -> Option<usize>
 fn classify(word: &[u8], place: usize) -> Word
     ensures { seen result ≡ classed word.now place }
 {
-    if let Some(numeral) = numeral_of(word) {
-        return Word::Number(word, place, numeral);
+    match numeral_of(word) {
+        Some(numeral) => Word::Number(word, place, numeral),
+        None if is_letters(word) => Word::Letter(word, place),
+        None => Word::Other(word, place),
     }
-    if is_letters(word) {
-        return Word::Letter(word, place);
-    }
-    Word::Other(word, place)
 }
 
 // The next word, with the place moved to its end; none where only blanks are left.
