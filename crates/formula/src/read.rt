@@ -4,7 +4,7 @@ ghost use Rattle.words.specs.Words.{words_from};
 ghost use Rattle.words.specs.Due.{got};
 ghost use Rattle.base.specs.Causes.{answered};
 ghost use Rattle.formula.specs.Groups.{no_variable};
-ghost use Rattle.formula.specs.Reading.{header_from, formula_from, head_read, Agrees, no_span, no_literal};
+ghost use Rattle.formula.specs.Reading.{header_from, formula_from, head_read, place_read, Agrees, no_span, no_literal};
 
 use self::clauses::read_clauses;
 use self::groups::read_groups;
@@ -94,6 +94,25 @@ fn clear(vars: &mut [Variable], clauses: &mut [Clause], literals: &mut [Literal]
     literals.fill(Literal::default());
 }
 
+// Reads a formula into tables that are cleared before, and again after a refusal.
+fn read_or_clear(
+    text: &[u8],
+    place: &mut Place,
+    vars: &mut [Variable],
+    clauses: &mut [Clause],
+    literals: &mut [Literal],
+) -> Result<Head, Fault>
+    ensures read { let f = formula_from text.now place.old.at (length vars.old) (length clauses.old) (length literals.old) in Agrees f result (record { variables = vars.old; clauses = clauses.old; literals = literals.old }) (record { variables = vars.new; clauses = clauses.new; literals = literals.new }) place.old.at (place_read f place.old.at) }
+    ensures place { OnOk result (place.new.at ≡ place_read (formula_from text.now place.old.at (length vars.old) (length clauses.old) (length literals.old)) place.old.at) }
+{
+    clear(vars, clauses, literals);
+    let read = read_into(text, place, vars, clauses, literals);
+    if read.is_err() {
+        clear(vars, clauses, literals);
+    }
+    read
+}
+
 // Reads a formula from the place on. Accepted, the tables hold it and are zero behind it, and the place is behind
 // its last word; refused, the tables are zero and the place is as it was.
 pub fn read_formula(
@@ -105,21 +124,8 @@ pub fn read_formula(
 ) -> Result<Head, Fault>
     ensures { Agrees (formula_from text.now place.old.at (length vars.old) (length clauses.old) (length literals.old)) result (record { variables = vars.old; clauses = clauses.old; literals = literals.old }) (record { variables = vars.new; clauses = clauses.new; literals = literals.new }) place.old.at place.new.at }
 {
-    let saved = *place;
-    let mut kept = KeptPlace {
-        place,
-        saved,
-        confirmed: false,
-    };
-    clear(vars, clauses, literals);
-    match read_into(text, kept.place, vars, clauses, literals) {
-        Ok(head) => {
-            kept.confirmed = true;
-            Ok(head)
-        }
-        Err(fault) => {
-            clear(vars, clauses, literals);
-            Err(fault)
-        }
-    }
+    let mut kept = KeptPlace::new(place);
+    let head = read_or_clear(text, kept.place, vars, clauses, literals)?;
+    kept.confirm();
+    Ok(head)
 }

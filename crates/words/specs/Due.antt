@@ -1,5 +1,6 @@
 -- The words that a reader asks for, by the list of words that are left: what is read, or the refusal.
-use Rattle.std.specs.Prelude.{ℕ, ◌<◌, ◌≤◌, Bool, true, false, cond, ◌&&◌, List, [], ◌∷◌, drop, Ok, Err, Result, ◌==◌}
+use Rattle.std.specs.Prelude.{ℕ, ◌<◌, ◌≤◌, Bool, cond, List, [], ◌∷◌, drop, Ok, Err, Result}
+use Rattle.std.specs.Str.{bytes_eq}
 use Rattle.base.specs.declared.faults.Fault.{Fault}
 use Rattle.base.specs.Causes.{Refusal, told, refused}
 use Rattle.words.specs.declared.forms.Numeral.{Numeral}
@@ -48,10 +49,7 @@ literal_in (number bs p n) = Ok n
 literal_in (other bs p) = Err (no_literal bs p)
 
 abbrev pub same : List ℕ → List ℕ → Bool
-same [] [] = true
-same [] (b ∷ bs) = false
-same (a ∷ as') [] = false
-same (a ∷ as') (b ∷ bs) = a == b && same as' bs
+same = bytes_eq
 
 -- a word where this name is due
 abbrev pub name_in : List ℕ → Spelt → Result (Unit {0}) Refusal
