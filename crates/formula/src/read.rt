@@ -8,7 +8,7 @@ ghost use Rattle.formula.specs.Reading.{header_from, formula_from, head_read, Ag
 
 use self::clauses::read_clauses;
 use self::groups::read_groups;
-use super::tables::{Clause, Head, Literal, Variable};
+use super::tables::{Clause, Head, Literal, MAX_CLAUSES, MAX_VARIABLES, Variable};
 use base::faults::{Cause, Fault, Layer};
 use words::due::{read_name, read_number};
 use words::place::{KeptPlace, Place};
@@ -16,16 +16,6 @@ use words::word::LONGEST_TEXT;
 
 pub mod clauses;
 pub mod groups;
-
-pub(crate) fn formula_fault(cause: Cause, place: usize) -> Fault
-    ensures { result ≡ record { cause = cause; place = place; layer = Layer.Formula } }
-{
-    Fault {
-        cause,
-        place,
-        layer: Layer::Formula,
-    }
-}
 
 // V and C, each judged at its word: a broken limit comes before a table that is too short.
 fn read_header(
@@ -35,23 +25,26 @@ fn read_header(
     clause_room: usize,
 ) -> Result<(u32, u32), Fault>
     ensures is { got result (words_from text.now place.new.at) place.new.at ≡ header_from (words_from text.now place.old.at) variable_room clause_room (length text.now) }
-    ensures fits { IfOk result (λ h. (h.0 ≤ 65535) × (h.0 ≤ variable_room) × (h.1 ≤ 16384) × (h.1 ≤ clause_room)) }
+    ensures variables { IfOk result (λ h. h.0 ≤ MAX_VARIABLES) }
+    ensures variables_fit { IfOk result (λ h. h.0 ≤ variable_room) }
+    ensures clauses { IfOk result (λ h. h.1 ≤ MAX_CLAUSES) }
+    ensures clauses_fit { IfOk result (λ h. h.1 ≤ clause_room) }
 {
     read_name(text, place, b"p")?;
     read_name(text, place, b"cnf")?;
     let (variables, at) = read_number(text, place)?;
-    if variables == 0 || variables > 65_535 {
-        return Err(formula_fault(Cause::FormulaLimit, at));
+    if variables == 0 || variables > MAX_VARIABLES {
+        return Err(Layer::Formula.fault(Cause::FormulaLimit, at));
     }
     if variables as usize > variable_room {
-        return Err(formula_fault(Cause::TableShort, at));
+        return Err(Layer::Formula.fault(Cause::TableShort, at));
     }
     let (clauses, at) = read_number(text, place)?;
-    if clauses > 16_384 {
-        return Err(formula_fault(Cause::FormulaLimit, at));
+    if clauses > MAX_CLAUSES {
+        return Err(Layer::Formula.fault(Cause::FormulaLimit, at));
     }
     if clauses as usize > clause_room {
-        return Err(formula_fault(Cause::TableShort, at));
+        return Err(Layer::Formula.fault(Cause::TableShort, at));
     }
     Ok((variables, clauses))
 }
@@ -64,16 +57,14 @@ fn read_into(
     clauses: &mut [Clause],
     literals: &mut [Literal],
 ) -> Result<Head, Fault>
-    requires { (vars.old ≡ replicate (length vars.old) no_variable) × ((clauses.old ≡ replicate (length clauses.old) no_span) × (literals.old ≡ replicate (length literals.old) no_literal)) }
+    requires no_variables { vars.old ≡ replicate (length vars.old) no_variable }
+    requires no_clauses { clauses.old ≡ replicate (length clauses.old) no_span }
+    requires no_literals { literals.old ≡ replicate (length literals.old) no_literal }
     ensures is { answered result ≡ head_read (formula_from text.now place.old.at (length vars.old) (length clauses.old) (length literals.old)) }
     ensures filled { OnOk result (Agrees (formula_from text.now place.old.at (length vars.old) (length clauses.old) (length literals.old)) result (record { variables = vars.old; clauses = clauses.old; literals = literals.old }) (record { variables = vars.new; clauses = clauses.new; literals = literals.new }) place.old.at place.new.at) }
 {
     if text.len() > LONGEST_TEXT {
-        return Err(Fault {
-            cause: Cause::TextTooLong,
-            place: 0,
-            layer: Layer::Words,
-        });
+        return Err(Layer::Words.fault(Cause::TextTooLong, 0));
     }
     let (variables, count) = read_header(text, place, vars.len(), clauses.len())?;
     let declared = read_groups(text, place, variables, vars)?;
@@ -87,7 +78,9 @@ fn read_into(
 }
 
 fn clear(vars: &mut [Variable], clauses: &mut [Clause], literals: &mut [Literal])
-    ensures { (vars.new ≡ replicate (length vars.old) no_variable) × ((clauses.new ≡ replicate (length clauses.old) no_span) × (literals.new ≡ replicate (length literals.old) no_literal)) }
+    ensures no_variables { vars.new ≡ replicate (length vars.old) no_variable }
+    ensures no_clauses { clauses.new ≡ replicate (length clauses.old) no_span }
+    ensures no_literals { literals.new ≡ replicate (length literals.old) no_literal }
 {
     vars.fill(Variable::default());
     clauses.fill(Clause::default());

@@ -5,9 +5,8 @@ ghost use Rattle.base.specs.Causes.{answered};
 ghost use Rattle.words.specs.Tables.{Kept};
 ghost use Rattle.formula.specs.Clauses.{no_clause, literal_of, judge_literal, clause_from, clauses_from, told_clause, told_clauses};
 
-use super::super::tables::{Clause, Kind, Literal, Variable};
-use super::formula_fault;
-use base::faults::{Cause, Fault};
+use super::super::tables::{Clause, Kind, Literal, MAX_LITERALS, Variable};
+use base::faults::{Cause, Fault, Layer};
 use words::due::read_literal;
 use words::forms::Numeral;
 use words::place::Place;
@@ -30,21 +29,21 @@ fn check_literal(
     ensures is { answered result ≡ judge_literal known vars.now count (slice_index marks.now number.value == stamp) room number at }
     ensures within { IfOk result (λ l. (l ≡ literal_of number) × (number.value ≤ known) × (count < room) × (count < 1024)) }
 {
-    if count >= 1_024 {
-        return Err(formula_fault(Cause::FormulaLimit, at));
+    if count >= MAX_LITERALS {
+        return Err(Layer::Formula.fault(Cause::FormulaLimit, at));
     }
     let v = number.value;
     if v > known {
-        return Err(formula_fault(Cause::VariableUnfit, at));
+        return Err(Layer::Formula.fault(Cause::VariableUnfit, at));
     }
-    if let Kind::Undeclared = vars[v as usize - 1].kind {
-        return Err(formula_fault(Cause::VariableUnfit, at));
+    if vars[v as usize - 1].kind == Kind::Undeclared {
+        return Err(Layer::Formula.fault(Cause::VariableUnfit, at));
     }
     if marks[v as usize] == stamp {
-        return Err(formula_fault(Cause::VariableTwice, at));
+        return Err(Layer::Formula.fault(Cause::VariableTwice, at));
     }
     if count >= room {
-        return Err(formula_fault(Cause::TableShort, at));
+        return Err(Layer::Formula.fault(Cause::TableShort, at));
     }
     Ok(Literal {
         variable: v,

@@ -5,9 +5,8 @@ ghost use Rattle.words.specs.Due.{Further};
 ghost use Rattle.base.specs.Causes.{answered};
 ghost use Rattle.formula.specs.Groups.{fresh, declared, told_declared, add_universal, add_existential, add_listed, add_dependency, group_in, inside, went, followed, groups_from, Begins, told_groups, nothing_declared, Where};
 
-use super::super::tables::{Kind, Variable};
-use super::formula_fault;
-use base::faults::{Cause, Fault};
+use super::super::tables::{Kind, MAX_EXISTENTIALS, MAX_UNIVERSALS, Variable};
+use base::faults::{Cause, Fault, Layer};
 use base::values::ValueWord;
 use words::due::read_number;
 use words::place::Place;
@@ -51,13 +50,12 @@ fn check_fresh(vars: &[Variable], known: u32, v: u32, at: usize) -> Result<(), F
     ensures within { OnOk result ((0 < v) × (v ≤ known)) }
 {
     if v == 0 || v > known {
-        return Err(formula_fault(Cause::VariableUnfit, at));
+        return Err(Layer::Formula.fault(Cause::VariableUnfit, at));
     }
-    match vars[v as usize - 1].kind {
-        Kind::Undeclared => Ok(()),
-        Kind::Universal => Err(formula_fault(Cause::VariableTwice, at)),
-        Kind::Existential => Err(formula_fault(Cause::VariableTwice, at)),
+    if vars[v as usize - 1].kind != Kind::Undeclared {
+        return Err(Layer::Formula.fault(Cause::VariableTwice, at));
     }
+    Ok(())
 }
 
 // Declares v, which stands at a place, as the next universal.
@@ -71,8 +69,8 @@ fn declare_universal(
     requires { known ≤ length vars.old }
     ensures { told_declared result vars.new ≡ add_universal known (declared counts vars.old) v at }
 {
-    if counts.universals >= 64 {
-        return Err(formula_fault(Cause::FormulaLimit, at));
+    if counts.universals >= MAX_UNIVERSALS {
+        return Err(Layer::Formula.fault(Cause::FormulaLimit, at));
     }
     check_fresh(vars, known, v, at)?;
     let universals = counts.universals + 1;
@@ -83,7 +81,7 @@ fn declare_universal(
     };
     Ok(Counts {
         universals,
-        existentials: counts.existentials,
+        ..counts
     })
 }
 
@@ -100,8 +98,8 @@ fn declare_existential(
     ensures is { told_declared result vars.new ≡ add_existential known (declared counts vars.old) dependencies v at }
     ensures within { OnOk result ((0 < v) × (v ≤ known)) }
 {
-    if counts.existentials >= 4_096 {
-        return Err(formula_fault(Cause::FormulaLimit, at));
+    if counts.existentials >= MAX_EXISTENTIALS {
+        return Err(Layer::Formula.fault(Cause::FormulaLimit, at));
     }
     check_fresh(vars, known, v, at)?;
     let existentials = counts.existentials + 1;
@@ -111,8 +109,8 @@ fn declare_existential(
         dependencies,
     };
     Ok(Counts {
-        universals: counts.universals,
         existentials,
+        ..counts
     })
 }
 
@@ -129,19 +127,17 @@ fn declare_dependency(
     ensures { went result (declared counts vars.new) ≡ add_dependency known (declared counts vars.old) v u at }
 {
     if u == 0 || u > known {
-        return Err(formula_fault(Cause::VariableUnfit, at));
+        return Err(Layer::Formula.fault(Cause::VariableUnfit, at));
     }
     let universal = vars[u as usize - 1];
-    let Kind::Universal = universal.kind else {
-        return Err(formula_fault(Cause::VariableUnfit, at));
-    };
-    if vars[v as usize - 1].dependencies.has(universal.position) {
-        return Err(formula_fault(Cause::VariableTwice, at));
+    if universal.kind != Kind::Universal {
+        return Err(Layer::Formula.fault(Cause::VariableUnfit, at));
     }
-    let dependencies = vars[v as usize - 1]
-        .dependencies
-        .union(ValueWord::single(universal.position));
-    vars[v as usize - 1].dependencies = dependencies;
+    let dependencies = &mut vars[v as usize - 1].dependencies;
+    if dependencies.has(universal.position) {
+        return Err(Layer::Formula.fault(Cause::VariableTwice, at));
+    }
+    *dependencies = dependencies.union(ValueWord::single(universal.position));
     Ok(())
 }
 
@@ -254,16 +250,12 @@ fn next_group(text: &[u8], place: &mut Place) -> Option<Group>
     ensures is { Begins result (words_from text.now place.old.at) (words_from text.now place.new.at) place.old.at place.new.at (length text.now) }
 {
     let mut ahead = *place;
-    match take_word(text, &mut ahead) {
-        Some(Word::Letter(word, _)) => {
-            let group = group_of(word)?;
-            *place = ahead;
-            Some(group)
-        }
-        Some(Word::Number(_, _, _)) => None,
-        Some(Word::Other(_, _)) => None,
-        None => None,
-    }
+    let Some(Word::Letter(word, _)) = take_word(text, &mut ahead) else {
+        return None;
+    };
+    let group = group_of(word)?;
+    *place = ahead;
+    Some(group)
 }
 
 // Groups up to the first word that begins none.
