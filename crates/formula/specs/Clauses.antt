@@ -60,9 +60,9 @@ abbrev pub told_clause : Result ℕ Fault → List Literal → List Spelt → �
 told_clause (Ok n) ls ws p = Ok (take n ls, ws, p)
 told_clause (Err e) ls ws p = Err (told e)
 
-abbrev pub told_clauses : Result ℕ Fault → ℕ → List Clause → List Literal → List Spelt → ℕ → Got Clauses
-told_clauses (Ok n) count cs ls ws p = Ok (record { spans = take count cs; literals = take n ls }, ws, p)
-told_clauses (Err e) count cs ls ws p = Err (told e)
+abbrev pub told_clauses : Result ℕ Fault → List Clause → List Literal → List Spelt → ℕ → Got Clauses
+told_clauses (Ok n) cs ls ws p = Ok (record { spans = cs; literals = take n ls }, ws, p)
+told_clauses (Err e) cs ls ws p = Err (told e)
 
 -- the variables of a clause's literals are those whose mark is the clause's stamp, and no mark is above it
 abbrev pub Marks : List Literal → List ℕ → ℕ → Type 0

@@ -85,6 +85,11 @@ abbrev pub add_listed : Quantifier → ℕ → Declared → ℕ → ℕ → Resu
 add_listed quantifier.Universal known d v p = add_universal known d v p
 add_listed quantifier.Existential known d v p = add_existential known d (first_word d.universals) v p
 
+-- v is declared in a group; one with dependencies of its own has none yet
+abbrev pub add_in : Group → ℕ → Declared → ℕ → ℕ → Result Declared Refusal
+add_in (group.Listed q) known d v p = add_listed q known d v p
+add_in group.Dependent known d v p = add_existential known d empty_word v p
+
 -- the group that a word of letters begins
 abbrev pub group_in : List ℕ → Option Group
 group_in bs =

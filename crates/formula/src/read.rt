@@ -67,8 +67,9 @@ fn read_into(
         return Err(Layer::Words.fault(Cause::TextTooLong, 0));
     }
     let (variables, count) = read_header(text, place, vars.len(), clauses.len())?;
-    let declared = read_groups(text, place, variables, vars)?;
-    let _ = read_clauses(text, place, variables, count, vars, clauses, literals)?;
+    let vars = &mut vars[..variables as usize];
+    let declared = read_groups(text, place, vars)?;
+    read_clauses(text, place, vars, &mut clauses[..count as usize], literals)?;
     Ok(Head {
         variables,
         clauses: count,

@@ -6,8 +6,8 @@ use Rattle.formula.proofs.read.groups.read_listed.Given as goal
 
 abbrev pub invariant-loop-v : goal.invariant-loop-v
 invariant-loop-v l =
-    (groups_from l.known (listed l.quantifier) (declared l.counts l.vars) (words_from l.text l.place.at) l.place.at (length l.text)
-    ≡ groups_from l.known (listed l.quantifier) (declared l.initial.counts l.initial.vars) (words_from l.text l.initial.place.at) l.initial.place.at (length l.text))
+    (groups_from (length l.vars) (listed l.quantifier) (declared l.counts l.vars) (words_from l.text l.place.at) l.place.at (length l.text)
+    ≡ groups_from (length l.initial.vars) (listed l.quantifier) (declared l.initial.counts l.initial.vars) (words_from l.text l.initial.place.at) l.initial.place.at (length l.text))
     × (l.initial.place.at ≤ l.place.at)
 
 abbrev pub decreases-loop-v : goal.decreases-loop-v
