@@ -83,6 +83,13 @@ pub record Tables : Type 0 where
   pub clauses : List Clause
   pub literals : List Literal
 
+abbrev pub tables : List Variable → List Clause → List Literal → Tables
+tables vs cs ls = record { variables = vs; clauses = cs; literals = ls }
+
+-- the formula that a text spells from a place on, for these tables
+abbrev pub formula_for : List ℕ → ℕ → Tables → Result Formula Refusal
+formula_for text place t = formula_from text place (length t.variables) (length t.clauses) (length t.literals)
+
 -- a reader's answer, and what it leaves in the tables and the place that it was lent
 pub record Agrees (f : Result Formula Refusal) (r : Result Head Fault) (was is : Tables) (p q : ℕ) : Type 0 where
   pub head : answered r ≡ head_read f
@@ -90,3 +97,7 @@ pub record Agrees (f : Result Formula Refusal) (r : Result Head Fault) (was is :
   pub clauses : is.clauses ≡ clauses_read f (length was.clauses)
   pub literals : is.literals ≡ literals_read f (length was.literals)
   pub place : q ≡ place_read f p
+
+-- the same of the formula that a text spells from a place on
+abbrev pub Reads : List ℕ → ℕ → Result Head Fault → Tables → Tables → ℕ → Type 0
+Reads text p r was is q = Agrees (formula_for text p was) r was is p q

@@ -4,7 +4,7 @@ ghost use Rattle.words.specs.Words.{words_from};
 ghost use Rattle.words.specs.Due.{got};
 ghost use Rattle.base.specs.Causes.{answered};
 ghost use Rattle.formula.specs.Groups.{no_variable};
-ghost use Rattle.formula.specs.Reading.{header_from, formula_from, head_read, Agrees, no_span, no_literal};
+ghost use Rattle.formula.specs.Reading.{header_from, head_read, tables, formula_for, Reads, no_span, no_literal};
 
 use self::clauses::read_clauses;
 use self::groups::read_groups;
@@ -60,8 +60,8 @@ fn read_into(
     requires no_variables { vars.old ≡ replicate (length vars.old) no_variable }
     requires no_clauses { clauses.old ≡ replicate (length clauses.old) no_span }
     requires no_literals { literals.old ≡ replicate (length literals.old) no_literal }
-    ensures is { answered result ≡ head_read (formula_from text.now place.old.at (length vars.old) (length clauses.old) (length literals.old)) }
-    ensures filled { OnOk result (Agrees (formula_from text.now place.old.at (length vars.old) (length clauses.old) (length literals.old)) result (record { variables = vars.old; clauses = clauses.old; literals = literals.old }) (record { variables = vars.new; clauses = clauses.new; literals = literals.new }) place.old.at place.new.at) }
+    ensures is { answered result ≡ head_read (formula_for text.now place.old.at (tables vars.old clauses.old literals.old)) }
+    ensures filled { OnOk result (Reads text.now place.old.at result (tables vars.old clauses.old literals.old) (tables vars.new clauses.new literals.new) place.new.at) }
 {
     if text.len() > LONGEST_TEXT {
         return Err(Layer::Words.fault(Cause::TextTooLong, 0));
@@ -97,7 +97,7 @@ pub fn read_formula(
     clauses: &mut [Clause],
     literals: &mut [Literal],
 ) -> Result<Head, Fault>
-    ensures { Agrees (formula_from text.now place.old.at (length vars.old) (length clauses.old) (length literals.old)) result (record { variables = vars.old; clauses = clauses.old; literals = literals.old }) (record { variables = vars.new; clauses = clauses.new; literals = literals.new }) place.old.at place.new.at }
+    ensures { Reads text.now place.old.at result (tables vars.old clauses.old literals.old) (tables vars.new clauses.new literals.new) place.new.at }
 {
     let saved = *place;
     let mut kept = KeptPlace {

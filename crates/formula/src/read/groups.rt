@@ -1,9 +1,9 @@
 // Groups of declarations: `a` universals, `e` existentials, `d` an existential with its dependencies.
-ghost use Rattle.std.specs.Prelude.{◌≡◌, ◌<◌, ◌≤◌, length, OnOk};
+ghost use Rattle.std.specs.Prelude.{◌≡◌, ◌<◌, ◌≤◌, length, cond, ◌||◌, ◌==◌, nat_lt, OnOk, OnSome};
 ghost use Rattle.words.specs.Words.{words_from};
 ghost use Rattle.words.specs.Due.{Further};
 ghost use Rattle.base.specs.Causes.{answered};
-ghost use Rattle.formula.specs.Groups.{fresh, declared, told_declared, add_in, add_dependency, group_in, inside, went, followed, groups_from, Begins, told_groups, nothing_declared, Where};
+ghost use Rattle.formula.specs.Groups.{variable_at, fresh, declared, told_declared, add_in, add_dependency, group_in, inside, went, followed, groups_from, Begins, told_groups, nothing_declared, Where};
 
 use super::super::tables::{Kind, MAX_EXISTENTIALS, MAX_UNIVERSALS, Variable};
 use base::faults::{Cause, Fault, Layer};
@@ -43,18 +43,27 @@ fn group_of(word: &[u8]) -> Option<Group>
     }
 }
 
+// The record of v, where v is one of these variables.
+pub(crate) fn variable(vars: &[Variable], v: u32) -> Option<Variable>
+    ensures is { result ≡ cond (v == 0 || nat_lt (length vars.now) v) None (Some (variable_at vars.now v)) }
+    ensures within { OnSome result ((0 < v) × (v ≤ length vars.now)) }
+{
+    vars.get((v as usize).checked_sub(1)?).copied()
+}
+
 // A variable that is declared has to be one of the formula's, and not declared before.
 fn check_fresh(vars: &[Variable], v: u32, at: usize) -> Result<(), Fault>
     ensures is { answered result ≡ fresh (length vars.now) vars.now v at }
     ensures within { OnOk result ((0 < v) × (v ≤ length vars.now)) }
 {
-    if v == 0 || v as usize > vars.len() {
-        return Err(Layer::Formula.fault(Cause::VariableUnfit, at));
+    match variable(vars, v) {
+        None => Err(Layer::Formula.fault(Cause::VariableUnfit, at)),
+        Some(x) if x.kind != Kind::Undeclared => Err(Layer::Formula.fault(
+            Cause::VariableTwice,
+            at,
+        )),
+        Some(_) => Ok(()),
     }
-    if vars[v as usize - 1].kind != Kind::Undeclared {
-        return Err(Layer::Formula.fault(Cause::VariableTwice, at));
-    }
-    Ok(())
 }
 
 // Declares v, which stands at a place, in a group. An existential of a list depends on every universal declared so
@@ -109,13 +118,9 @@ fn declare_dependency(vars: &mut [Variable], v: u32, u: u32, at: usize) -> Resul
     requires within { v ≤ length vars.old }
     ensures { (c : Counts) → went result (declared c vars.new) ≡ add_dependency (length vars.old) (declared c vars.old) v u at }
 {
-    if u == 0 || u as usize > vars.len() {
+    let Some(universal) = variable(vars, u).filter(|x| x.kind == Kind::Universal) else {
         return Err(Layer::Formula.fault(Cause::VariableUnfit, at));
-    }
-    let universal = vars[u as usize - 1];
-    if universal.kind != Kind::Universal {
-        return Err(Layer::Formula.fault(Cause::VariableUnfit, at));
-    }
+    };
     let dependencies = &mut vars[v as usize - 1].dependencies;
     if dependencies.has(universal.position) {
         return Err(Layer::Formula.fault(Cause::VariableTwice, at));
