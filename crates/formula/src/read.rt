@@ -1,9 +1,9 @@
 // The reader of formula texts: `p cnf V C`, then groups of declarations, then C clauses.
-ghost use Rattle.std.specs.Prelude.{◌≡◌, ◌≤◌, length, replicate, IfOk, OnOk};
+ghost use Rattle.std.specs.Prelude.{◌≡◌, ◌<◌, ◌≤◌, length, replicate, cond, ◌||◌, ◌==◌, nat_lt, IfOk, OnOk, OnSome};
 ghost use Rattle.words.specs.Words.{words_from};
 ghost use Rattle.words.specs.Due.{got};
 ghost use Rattle.base.specs.Causes.{answered};
-ghost use Rattle.formula.specs.Groups.{no_variable};
+ghost use Rattle.formula.specs.Groups.{no_variable, variable_at};
 ghost use Rattle.formula.specs.Reading.{header_from, head_read, tables, formula_for, Reads, no_span, no_literal};
 
 use self::clauses::read_clauses;
@@ -16,6 +16,15 @@ use words::word::LONGEST_TEXT;
 
 pub mod clauses;
 pub mod groups;
+mod marks;
+
+// The record of v, where v is one of these variables.
+pub(crate) fn variable(vars: &[Variable], v: u32) -> Option<Variable>
+    ensures is { result ≡ cond (v == 0 || nat_lt (length vars.now) v) None (Some (variable_at vars.now v)) }
+    ensures within { OnSome result ((0 < v) × (v ≤ length vars.now)) }
+{
+    vars.get((v as usize).checked_sub(1)?).copied()
+}
 
 // V and C, each judged at its word: a broken limit comes before a table that is too short.
 fn read_header(

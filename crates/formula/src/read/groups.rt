@@ -1,11 +1,12 @@
 // Groups of declarations: `a` universals, `e` existentials, `d` an existential with its dependencies.
-ghost use Rattle.std.specs.Prelude.{◌≡◌, ◌<◌, ◌≤◌, length, cond, ◌||◌, ◌==◌, nat_lt, OnOk, OnSome};
+ghost use Rattle.std.specs.Prelude.{◌≡◌, ◌<◌, ◌≤◌, length, OnOk};
 ghost use Rattle.words.specs.Words.{words_from};
 ghost use Rattle.words.specs.Due.{Further};
 ghost use Rattle.base.specs.Causes.{answered};
-ghost use Rattle.formula.specs.Groups.{variable_at, fresh, declared, told_declared, add_in, add_dependency, group_in, inside, went, followed, groups_from, Begins, told_groups, nothing_declared, Where};
+ghost use Rattle.formula.specs.Groups.{fresh, declared, told_declared, add_in, add_dependency, group_in, inside, went, followed, groups_from, Begins, told_groups, nothing_declared, Where};
 
 use super::super::tables::{Kind, MAX_EXISTENTIALS, MAX_UNIVERSALS, Variable};
+use super::variable;
 use base::faults::{Cause, Fault, Layer};
 use base::values::ValueWord;
 use words::due::read_number;
@@ -41,14 +42,6 @@ fn group_of(word: &[u8]) -> Option<Group>
         [b'd'] => Some(Group::Dependent),
         _ => None,
     }
-}
-
-// The record of v, where v is one of these variables.
-pub(crate) fn variable(vars: &[Variable], v: u32) -> Option<Variable>
-    ensures is { result ≡ cond (v == 0 || nat_lt (length vars.now) v) None (Some (variable_at vars.now v)) }
-    ensures within { OnSome result ((0 < v) × (v ≤ length vars.now)) }
-{
-    vars.get((v as usize).checked_sub(1)?).copied()
 }
 
 // A variable that is declared has to be one of the formula's, and not declared before.

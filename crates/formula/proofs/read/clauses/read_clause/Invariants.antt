@@ -1,7 +1,8 @@
-use Rattle.std.proofs.Common.{◌≡◌, ◌-◌, ◌≤◌, [], length, take}
+use Rattle.std.proofs.Common.{◌≡◌, ℕ, ◌-◌, ◌≤◌, [], length, take}
 use Rattle.words.specs.Words.{words_from}
 use Rattle.words.specs.Tables.{Kept}
-use Rattle.formula.specs.Clauses.{clause_from, Marks}
+use Rattle.formula.specs.Clauses.{names, clause_from}
+use Rattle.formula.specs.Marks.{has_mark}
 use Rattle.formula.proofs.read.clauses.read_clause.Given as goal
 
 abbrev pub invariant-loop-number : goal.invariant-loop-number
@@ -12,7 +13,8 @@ invariant-loop-number l = record {
   room : l.n ≤ length l.initial.rest;
   few : l.n ≤ 1024;
   kept : Kept l.n l.initial.rest l.rest;
-  marked : Marks (take l.n l.rest) l.marks l.stamp;
+  marked : (v : ℕ) → has_mark l.marks v ≡ names v (take l.n l.rest);
+  clause : l.marks.clause ≡ l.initial.marks.clause;
 }
 
 abbrev pub decreases-loop-number : goal.decreases-loop-number
