@@ -4,16 +4,17 @@ use Rattle.std.proofs.lemmas.List.{drop-replicate, get_or_append_left, length-se
 use Rattle.std.proofs.lemmas.Bool.Decides.{nat_tests}
 use Rattle.base.specs.Causes.{Refusal, refused}
 use Rattle.base.specs.Words.{empty_word, first_word, has_bit}
-use Rattle.words.specs.Words.{Spelt, start_of, end_of}
+use Rattle.words.specs.Words.{Spelt, words_from, start_of, end_of}
 use Rattle.words.specs.Due.{Got, and_then, number_in, literal_in}
 use Rattle.words.specs.Tables.{padded}
+use Rattle.formula.specs.declared.tables.Clause.{Clause}
 use Rattle.formula.specs.declared.tables.Literal.{Literal}
 use Rattle.formula.specs.declared.tables.Variable.{Variable}
 use Rattle.formula.specs.declared.read.groups.Quantifier.{Quantifier}
 use Rattle.formula.specs.declared.read.groups.Quantifier.TheVariants as quantifier
 use Rattle.formula.specs.declared.read.groups.Group.{Group}
 use Rattle.formula.specs.declared.read.groups.Group.TheVariants as group
-use Rattle.formula.specs.Groups.{Declared, Where, outside, listed, dependent, dependencies, no_variable, variable_at, is_undeclared, is_universal, fresh, add_listed, add_existential, add_dependency, begun, inside, on_group, groups_from, nothing_declared}
+use Rattle.formula.specs.Groups.{Declared, Where, outside, listed, dependent, dependencies, no_variable, variable_at, is_undeclared, is_universal, fresh, add_listed, add_existential, add_dependency, begun, inside, on_group, groups_from, groups_at, nothing_declared}
 use Rattle.formula.specs.Clauses.{Clauses, no_clause, add_clause, add_literal, names, clause_from, clauses_from}
 
 cond_same : {X : Type 0} (b : Bool) (x y z : X) → (b ≡ false → y ≡ z) → cond b x y ≡ cond b x z
@@ -153,20 +154,23 @@ module _ (known : ℕ) (ys : List Variable) where
         ap (λ r. and_then r (λ c. clauses_from known (xs ++ ys) n (add_clause done c.0) c.1 c.2 room size)) (clause_front ws [] (room - length done.literals) size)
         ∙ then_same (clause_from known xs [] ws (room - length done.literals) size) _ _ (λ c. clauses_front n (add_clause done c.0) c.1 c.2 room size)
 
--- the groups of a table, by those of its front
-pub groups_of_front : (known : ℕ) (vs : List Variable) (ws : List Spelt) (q size : ℕ) → known ≤ length vs → groups_from known outside (nothing_declared vs) ws q size ≡ all_wider known (drop known vs) (groups_from (length (take known vs)) outside (nothing_declared (take known vs)) ws q size)
-groups_of_front known vs ws q size h =
+-- the groups of a text over a table, by those over its front
+pub groups_of_front : (known : ℕ) (vs : List Variable) (text : List ℕ) (p : ℕ) → known ≤ length vs → groups_from known outside (nothing_declared vs) (words_from text p) p (length text) ≡ all_wider known (drop known vs) (groups_at text p outside (nothing_declared (take known vs)))
+groups_of_front known vs text p h =
     let l = length-take-le known vs h in
-    ap (λ t. groups_from known outside (nothing_declared t) ws q size) (sym (take-append-drop known vs))
-    ∙ groups_front known (drop known vs) ws outside (nothing_declared (take known vs)) q size l tt
-    ∙ ap (λ k. all_wider known (drop known vs) (groups_from k outside (nothing_declared (take known vs)) ws q size)) (sym l)
+    ap (λ t. groups_from known outside (nothing_declared t) (words_from text p) p (length text)) (sym (take-append-drop known vs))
+    ∙ groups_front known (drop known vs) (words_from text p) outside (nothing_declared (take known vs)) p (length text) l tt
+    ∙ ap (λ k. all_wider known (drop known vs) (groups_from k outside (nothing_declared (take known vs)) (words_from text p) p (length text))) (sym l)
 
--- the clauses over a table, by its front
-pub clauses_of_front : (known : ℕ) (xs ys : List Variable) (n : ℕ) (ws : List Spelt) (q room size : ℕ) → length xs ≡ known → clauses_from known (xs ++ ys) n no_clause ws q room size ≡ clauses_from (length xs) xs n no_clause ws q room size
-clauses_of_front known xs ys n ws q room size l =
-    clauses_front known ys xs l n no_clause ws q room size ∙ ap (λ k. clauses_from k xs n no_clause ws q room size) (sym l)
+-- the clauses of a text over a table of variables, by those over its front, as many as the front of their own table
+pub clauses_of_front : (known count : ℕ) (vs xs : List Variable) (cs : List Clause) (ws : List Spelt) (q room size : ℕ) → known ≤ length vs → count ≤ length cs → length xs ≡ length (take known vs) → clauses_from known (xs ++ drop known vs) count no_clause ws q room size ≡ clauses_from (length xs) xs (length (take count cs)) no_clause ws q room size
+clauses_of_front known count vs xs cs ws q room size h i e =
+    let l : length xs ≡ known = e ∙ length-take-le known vs h in
+    clauses_front known (drop known vs) xs l count no_clause ws q room size
+    ∙ ap (λ k. clauses_from k xs count no_clause ws q room size) (sym l)
+    ∙ ap (λ k. clauses_from (length xs) xs k no_clause ws q room size) (sym (length-take-le count cs i))
 
 -- a table that held zeros, with its front filled
-pub padded_front : {X : Type 0} (none : X) (n : ℕ) (xs ys : List X) → ys ≡ replicate (length ys) none → length xs ≡ n → xs ++ drop n ys ≡ padded none xs (length ys)
-padded_front none n xs ys z l =
-    ap (λ t. xs ++ t) (ap (drop n) z ∙ drop-replicate n (length ys) none ∙ ap (λ k. replicate (length ys - k) none) (sym l))
+pub padded_front : {X : Type 0} (none : X) (n : ℕ) (xs ys : List X) → ys ≡ replicate (length ys) none → n ≤ length ys → length xs ≡ length (take n ys) → xs ++ drop n ys ≡ padded none xs (length ys)
+padded_front none n xs ys z h e =
+    ap (λ t. xs ++ t) (ap (drop n) z ∙ drop-replicate n (length ys) none ∙ ap (λ k. replicate (length ys - k) none) (sym (e ∙ length-take-le n ys h)))

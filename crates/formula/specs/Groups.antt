@@ -4,7 +4,7 @@ use Rattle.base.specs.declared.faults.Fault.{Fault}
 use Rattle.base.specs.declared.values.ValueWord.{ValueWord}
 use Rattle.base.specs.Causes.{Refusal, told, refused}
 use Rattle.base.specs.Words.{empty_word, first_word, single_word, union_word, has_bit}
-use Rattle.words.specs.Words.{Spelt, letter, number, other, start_of, end_of}
+use Rattle.words.specs.Words.{Spelt, letter, number, other, start_of, end_of, words_from}
 use Rattle.words.specs.Due.{Got, and_then, number_in, text_ends, Further}
 use Rattle.formula.specs.declared.tables.Kind.{Kind}
 use Rattle.formula.specs.declared.tables.Kind.TheVariants as kind
@@ -137,6 +137,10 @@ groups_from known (dependencies v) d (w ∷ ws) q size =
     and_then (number_in w)
     (λ u. cond (u == 0) (groups_from known outside d ws (end_of w) size)
     (and_then (add_dependency known d v u (start_of w)) (λ d'. groups_from known (dependencies v) d' ws (end_of w) size)))
+
+-- the groups of a text from a place on, over the table of the formula's variables
+abbrev pub groups_at : List ℕ → ℕ → Where → Declared → Got Declared
+groups_at text p m d = groups_from (length d.table) m d (words_from text p) p (length text)
 
 -- what follows a part that was read; a refusal goes through unchanged
 abbrev pub followed : {X Y : Type 0} → Result X Fault → (X → Result Y Refusal) → Result Y Refusal

@@ -3,7 +3,7 @@ ghost use Rattle.std.specs.Prelude.{◌≡◌, ◌<◌, ◌≤◌, length, OnOk}
 ghost use Rattle.words.specs.Words.{words_from};
 ghost use Rattle.words.specs.Due.{Further};
 ghost use Rattle.base.specs.Causes.{answered};
-ghost use Rattle.formula.specs.Groups.{fresh, declared, told_declared, add_in, add_dependency, group_in, inside, went, followed, groups_from, Begins, told_groups, nothing_declared, Where};
+ghost use Rattle.formula.specs.Groups.{fresh, declared, told_declared, add_in, add_dependency, group_in, inside, went, followed, groups_at, Begins, told_groups, nothing_declared, Where};
 
 use super::super::tables::{Kind, MAX_EXISTENTIALS, MAX_UNIVERSALS, Variable};
 use super::variable;
@@ -130,7 +130,7 @@ fn read_listed(
     counts: Counts,
     quantifier: Quantifier,
 ) -> Result<Counts, Fault>
-    ensures is { followed result (λ c. groups_from (length vars.old) Where.outside (declared c vars.new) (words_from text.now place.new.at) place.new.at (length text.now)) ≡ groups_from (length vars.old) (Where.listed quantifier) (declared counts vars.old) (words_from text.now place.old.at) place.old.at (length text.now) }
+    ensures is { followed result (λ c. groups_at text.now place.new.at Where.outside (declared c vars.new)) ≡ groups_at text.now place.old.at (Where.listed quantifier) (declared counts vars.old) }
     ensures onward { OnOk result (Further place.old.at place.new.at (length text.now)) }
 {
     let mut counts = counts;
@@ -152,7 +152,7 @@ fn read_dependencies(
 ) -> Result<(), Fault>
     requires above { 0 < v }
     requires within { v ≤ length vars.old }
-    ensures is { (c : Counts) → followed result (λ _. groups_from (length vars.old) Where.outside (declared c vars.new) (words_from text.now place.new.at) place.new.at (length text.now)) ≡ groups_from (length vars.old) (Where.dependencies v) (declared c vars.old) (words_from text.now place.old.at) place.old.at (length text.now) }
+    ensures is { (c : Counts) → followed result (λ _. groups_at text.now place.new.at Where.outside (declared c vars.new)) ≡ groups_at text.now place.old.at (Where.dependencies v) (declared c vars.old) }
     ensures onward { OnOk result (Further place.old.at place.new.at (length text.now)) }
 {
     loop {
@@ -171,7 +171,7 @@ fn read_dependent(
     vars: &mut [Variable],
     counts: Counts,
 ) -> Result<Counts, Fault>
-    ensures is { followed result (λ c. groups_from (length vars.old) Where.outside (declared c vars.new) (words_from text.now place.new.at) place.new.at (length text.now)) ≡ groups_from (length vars.old) Where.dependent (declared counts vars.old) (words_from text.now place.old.at) place.old.at (length text.now) }
+    ensures is { followed result (λ c. groups_at text.now place.new.at Where.outside (declared c vars.new)) ≡ groups_at text.now place.old.at Where.dependent (declared counts vars.old) }
     ensures onward { OnOk result (Further place.old.at place.new.at (length text.now)) }
 {
     let (v, at) = read_number(text, place)?;
@@ -188,7 +188,7 @@ fn read_group(
     counts: Counts,
     group: Group,
 ) -> Result<Counts, Fault>
-    ensures is { followed result (λ c. groups_from (length vars.old) Where.outside (declared c vars.new) (words_from text.now place.new.at) place.new.at (length text.now)) ≡ groups_from (length vars.old) (inside group) (declared counts vars.old) (words_from text.now place.old.at) place.old.at (length text.now) }
+    ensures is { followed result (λ c. groups_at text.now place.new.at Where.outside (declared c vars.new)) ≡ groups_at text.now place.old.at (inside group) (declared counts vars.old) }
     ensures onward { OnOk result (Further place.old.at place.new.at (length text.now)) }
 {
     match group {
@@ -217,7 +217,7 @@ pub(crate) fn read_groups(
     place: &mut Place,
     vars: &mut [Variable],
 ) -> Result<Counts, Fault>
-    ensures { told_groups result vars.new (words_from text.now place.new.at) place.new.at ≡ groups_from (length vars.old) Where.outside (nothing_declared vars.old) (words_from text.now place.old.at) place.old.at (length text.now) }
+    ensures { told_groups result vars.new (words_from text.now place.new.at) place.new.at ≡ groups_at text.now place.old.at Where.outside (nothing_declared vars.old) }
 {
     let mut counts = Counts::default();
     while let Some(group) = next_group(text, place) {
