@@ -25,7 +25,7 @@ or_same : (b x y : Bool) → (b ≡ false → x ≡ y) → (b || x) ≡ (b || y)
 or_same true x y h = refl
 or_same false x y h = h refl
 
-then_same : {X Y : Type 0} (r : Result X Refusal) (f g : X → Result Y Refusal) → ((x : X) → f x ≡ g x) → and_then r f ≡ and_then r g
+pub then_same : {X Y : Type 0} (r : Result X Refusal) (f g : X → Result Y Refusal) → ((x : X) → f x ≡ g x) → and_then r f ≡ and_then r g
 then_same (Ok x) f g h = h x
 then_same (Err e) f g h = refl
 

@@ -23,6 +23,10 @@ no_variable = record { kind = kind.Undeclared; position = 0; dependencies = reco
 abbrev pub variable_at : List Variable → ℕ → Variable
 variable_at vs v = slice_index_or vs (v - 1) no_variable
 
+-- the record of v, where v is one of these variables
+abbrev pub variable_in : List Variable → ℕ → Option Variable
+variable_in vs v = cond (v == 0 || nat_lt (length vs) v) None (Some (variable_at vs v))
+
 abbrev pub is_undeclared : Kind → Bool
 is_undeclared kind.Undeclared = true
 is_undeclared kind.Universal = false
@@ -41,14 +45,6 @@ pub record Declared : Type 0 where
 
 abbrev pub declared : Counts → List Variable → Declared
 declared c vs = record { universals = c.universals; existentials = c.existentials; table = vs }
-
-abbrev pub told_declared : Result Counts Fault → List Variable → Result Declared Refusal
-told_declared (Ok c) vs = Ok (declared c vs)
-told_declared (Err e) vs = Err (told e)
-
-abbrev pub went : {X Y : Type 0} → Result X Fault → Y → Result Y Refusal
-went (Ok x) y = Ok y
-went (Err e) y = Err (told e)
 
 -- variable v, at place p, is one of the formula's and is not declared yet
 abbrev pub fresh : ℕ → List Variable → ℕ → ℕ → Result (Unit {0}) Refusal
@@ -155,10 +151,6 @@ begins (w ∷ ws) = begun w
 abbrev pub Begins : Option Group → List Spelt → List Spelt → ℕ → ℕ → ℕ → Type 0
 Begins (Some g) was is p q size = (w : Spelt) × (was ≡ w ∷ is) × (begun w ≡ Some g) × (q ≡ end_of w) × Further p q size
 Begins None was is p q size = (begins was ≡ None) × (q ≡ p)
-
-abbrev pub told_groups : Result Counts Fault → List Variable → List Spelt → ℕ → Got Declared
-told_groups (Ok c) vs ws p = Ok (declared c vs, ws, p)
-told_groups (Err e) vs ws p = Err (told e)
 
 abbrev pub nothing_declared : List Variable → Declared
 nothing_declared vs = record { universals = 0; existentials = 0; table = vs }

@@ -1,5 +1,5 @@
 -- What the reader of formula texts answers.
-use Rattle.std.specs.Prelude.{◌≡◌, ℕ, Bool, false, cond, ◌||◌, ltb, List, [], ◌∷◌, length, replicate, Ok, Err, Result, ◌==◌, nat_lt}
+use Rattle.std.specs.Prelude.{◌≡◌, ℕ, Bool, false, cond, ◌||◌, List, [], ◌∷◌, length, replicate, Ok, Err, Result, ◌==◌, nat_lt}
 use Rattle.base.specs.declared.faults.Fault.{Fault}
 use Rattle.base.specs.Causes.{Refusal, refused, answered}
 use Rattle.words.specs.Words.{Spelt, words_from}
@@ -29,7 +29,7 @@ header_from ws variable_room clause_room size =
     and_then (name_from (112 ∷ []) ws size)
     (λ a. and_then (name_from (99 ∷ 110 ∷ 102 ∷ []) a.1 size)
     (λ b. and_then (count_from (λ n. (n == 0) || nat_lt 65535 n) variable_room b.1 size)
-    (λ v. and_then (count_from (λ n. ltb 16384 n) clause_room v.1 size) (λ c. Ok ((v.0, c.0), c.1, c.2)))))
+    (λ v. and_then (count_from (λ n. nat_lt 16384 n) clause_room v.1 size) (λ c. Ok ((v.0, c.0), c.1, c.2)))))
 
 -- A formula as its tables hold it, without the zeros behind them, and the place behind its last word.
 pub record Formula : Type 0 where

@@ -1,10 +1,10 @@
 // The reader of formula texts: `p cnf V C`, then groups of declarations, then C clauses.
-ghost use Rattle.std.specs.Prelude.{◌≡◌, ◌<◌, ◌≤◌, length, replicate, cond, ◌||◌, ◌==◌, nat_lt, IfOk, OnOk, OnSome};
+ghost use Rattle.std.specs.Prelude.{◌≡◌, ◌<◌, ◌≤◌, length, replicate, ◌||◌, nat_lt, IfOk, OnOk, OnSome};
 ghost use Rattle.words.specs.Words.{words_from};
 ghost use Rattle.words.specs.Due.{got};
 ghost use Rattle.base.specs.Causes.{answered};
-ghost use Rattle.formula.specs.Groups.{no_variable, variable_at};
-ghost use Rattle.formula.specs.Reading.{header_from, head_read, tables, formula_for, Reads, no_span, no_literal};
+ghost use Rattle.formula.specs.Groups.{no_variable, variable_in};
+ghost use Rattle.formula.specs.Reading.{count_from, header_from, head_read, tables, formula_for, Reads, no_span, no_literal};
 
 use self::clauses::read_clauses;
 use self::groups::read_groups;
@@ -20,13 +20,35 @@ mod marks;
 
 // The record of v, where v is one of these variables.
 pub(crate) fn variable(vars: &[Variable], v: u32) -> Option<Variable>
-    ensures is { result ≡ cond (v == 0 || nat_lt (length vars.now) v) None (Some (variable_at vars.now v)) }
+    ensures is { result ≡ variable_in vars.now v }
     ensures within { OnSome result ((0 < v) × (v ≤ length vars.now)) }
 {
     vars.get((v as usize).checked_sub(1)?).copied()
 }
 
-// V and C, each judged at its word: a broken limit comes before a table that is too short.
+// A count of the header, judged at its word: a broken limit comes before a table that is too short.
+fn read_count(
+    text: &[u8],
+    place: &mut Place,
+    least: u32,
+    most: u32,
+    room: usize,
+) -> Result<u32, Fault>
+    ensures is { got result (words_from text.now place.new.at) place.new.at ≡ count_from (λ n. nat_lt n least || nat_lt most n) room (words_from text.now place.old.at) (length text.now) }
+    ensures limit { IfOk result (λ n. n ≤ most) }
+    ensures fits { IfOk result (λ n. n ≤ room) }
+{
+    let (count, at) = read_number(text, place)?;
+    if count < least || count > most {
+        return Err(Layer::Formula.fault(Cause::FormulaLimit, at));
+    }
+    if count as usize > room {
+        return Err(Layer::Formula.fault(Cause::TableShort, at));
+    }
+    Ok(count)
+}
+
+// V and C.
 fn read_header(
     text: &[u8],
     place: &mut Place,
@@ -41,20 +63,8 @@ fn read_header(
 {
     read_name(text, place, b"p")?;
     read_name(text, place, b"cnf")?;
-    let (variables, at) = read_number(text, place)?;
-    if variables == 0 || variables > MAX_VARIABLES {
-        return Err(Layer::Formula.fault(Cause::FormulaLimit, at));
-    }
-    if variables as usize > variable_room {
-        return Err(Layer::Formula.fault(Cause::TableShort, at));
-    }
-    let (clauses, at) = read_number(text, place)?;
-    if clauses > MAX_CLAUSES {
-        return Err(Layer::Formula.fault(Cause::FormulaLimit, at));
-    }
-    if clauses as usize > clause_room {
-        return Err(Layer::Formula.fault(Cause::TableShort, at));
-    }
+    let variables = read_count(text, place, 1, MAX_VARIABLES, variable_room)?;
+    let clauses = read_count(text, place, 0, MAX_CLAUSES, clause_room)?;
     Ok((variables, clauses))
 }
 

@@ -1,10 +1,11 @@
 // Clauses: literals up to a 0, into the rest of the literal table.
-ghost use Rattle.std.specs.Prelude.{◌≡◌, ◌+◌, ◌<◌, ◌≤◌, [], length, IfOk, OnOk};
+ghost use Rattle.std.specs.Prelude.{◌≡◌, ◌+◌, ◌<◌, ◌≤◌, [], length, take, IfOk, OnOk};
 ghost use Rattle.words.specs.Words.{words_from};
 ghost use Rattle.base.specs.Causes.{answered};
 ghost use Rattle.words.specs.Tables.{Kept};
 ghost use Rattle.formula.specs.declared.tables.TheConstants.{MAX_CLAUSES, MAX_VARIABLES};
-ghost use Rattle.formula.specs.Clauses.{no_clause, literal_of, judge_literal, clause_from, clauses_from, told_clause, told_clauses};
+ghost use Rattle.formula.specs.Clauses.{no_clause, literal_of, judge_literal, clause_from, clauses_from};
+ghost use Rattle.formula.specs.Groups.{followed};
 ghost use Rattle.formula.specs.Marks.{has_mark};
 
 use super::super::tables::{Clause, Kind, Literal, MAX_LITERALS, Variable};
@@ -61,7 +62,7 @@ fn read_clause(
 ) -> Result<usize, Fault>
     requires variables { length vars.now ≤ MAX_VARIABLES }
     requires clauses { marks.old.clause < MAX_CLAUSES }
-    ensures is { told_clause result rest.new (words_from text.now place.new.at) place.new.at ≡ clause_from (length vars.now) vars.now [] (words_from text.now place.old.at) (length rest.old) (length text.now) }
+    ensures is { followed result (λ n. Ok (take n rest.new, words_from text.now place.new.at, place.new.at)) ≡ clause_from (length vars.now) vars.now [] (words_from text.now place.old.at) (length rest.old) (length text.now) }
     ensures few { IfOk result (λ n. n ≤ MAX_LITERALS) }
     ensures room { IfOk result (λ n. n ≤ length rest.old) }
     ensures kept { IfOk result (λ n. Kept n rest.old rest.new) }
@@ -92,7 +93,7 @@ pub(crate) fn read_clauses(
 ) -> Result<usize, Fault>
     requires variables { length vars.now ≤ MAX_VARIABLES }
     requires few { length clauses.old ≤ MAX_CLAUSES }
-    ensures is { told_clauses result clauses.new literals.new (words_from text.now place.new.at) place.new.at ≡ clauses_from (length vars.now) vars.now (length clauses.old) no_clause (words_from text.now place.old.at) place.old.at (length literals.old) (length text.now) }
+    ensures is { followed result (λ n. Ok (record { spans = clauses.new; literals = take n literals.new }, words_from text.now place.new.at, place.new.at)) ≡ clauses_from (length vars.now) vars.now (length clauses.old) no_clause (words_from text.now place.old.at) place.old.at (length literals.old) (length text.now) }
     ensures room { IfOk result (λ n. n ≤ length literals.old) }
     ensures kept { IfOk result (λ n. Kept n literals.old literals.new) }
 {

@@ -3,7 +3,7 @@ ghost use Rattle.std.specs.Prelude.{◌≡◌, ◌<◌, ◌≤◌, length, OnOk}
 ghost use Rattle.words.specs.Words.{words_from};
 ghost use Rattle.words.specs.Due.{Further};
 ghost use Rattle.base.specs.Causes.{answered};
-ghost use Rattle.formula.specs.Groups.{fresh, declared, told_declared, add_in, add_dependency, group_in, inside, went, followed, groups_at, Begins, told_groups, nothing_declared, Where};
+ghost use Rattle.formula.specs.Groups.{fresh, declared, add_in, add_dependency, group_in, inside, followed, groups_at, Begins, nothing_declared, Where};
 
 use super::super::tables::{Kind, MAX_EXISTENTIALS, MAX_UNIVERSALS, Variable};
 use super::variable;
@@ -49,14 +49,11 @@ fn check_fresh(vars: &[Variable], v: u32, at: usize) -> Result<(), Fault>
     ensures is { answered result ≡ fresh (length vars.now) vars.now v at }
     ensures within { OnOk result ((0 < v) × (v ≤ length vars.now)) }
 {
-    match variable(vars, v) {
-        None => Err(Layer::Formula.fault(Cause::VariableUnfit, at)),
-        Some(x) if x.kind != Kind::Undeclared => Err(Layer::Formula.fault(
-            Cause::VariableTwice,
-            at,
-        )),
-        Some(_) => Ok(()),
+    let record = variable(vars, v).ok_or(Layer::Formula.fault(Cause::VariableUnfit, at))?;
+    if record.kind != Kind::Undeclared {
+        return Err(Layer::Formula.fault(Cause::VariableTwice, at));
     }
+    Ok(())
 }
 
 // Declares v, which stands at a place, in a group. An existential of a list depends on every universal declared so
@@ -68,7 +65,7 @@ fn declare(
     v: u32,
     at: usize,
 ) -> Result<Counts, Fault>
-    ensures is { told_declared result vars.new ≡ add_in group (length vars.old) (declared counts vars.old) v at }
+    ensures is { followed result (λ c. Ok (declared c vars.new)) ≡ add_in group (length vars.old) (declared counts vars.old) v at }
     ensures within { OnOk result ((0 < v) × (v ≤ length vars.old)) }
 {
     let (quantifier, dependencies) = match group {
@@ -109,7 +106,7 @@ fn declare(
 fn declare_dependency(vars: &mut [Variable], v: u32, u: u32, at: usize) -> Result<(), Fault>
     requires above { 0 < v }
     requires within { v ≤ length vars.old }
-    ensures { (c : Counts) → went result (declared c vars.new) ≡ add_dependency (length vars.old) (declared c vars.old) v u at }
+    ensures { (c : Counts) → followed result (λ _. Ok (declared c vars.new)) ≡ add_dependency (length vars.old) (declared c vars.old) v u at }
 {
     let Some(universal) = variable(vars, u).filter(|x| x.kind == Kind::Universal) else {
         return Err(Layer::Formula.fault(Cause::VariableUnfit, at));
@@ -217,7 +214,7 @@ pub(crate) fn read_groups(
     place: &mut Place,
     vars: &mut [Variable],
 ) -> Result<Counts, Fault>
-    ensures { told_groups result vars.new (words_from text.now place.new.at) place.new.at ≡ groups_at text.now place.old.at Where.outside (nothing_declared vars.old) }
+    ensures { followed result (λ c. Ok (declared c vars.new, words_from text.now place.new.at, place.new.at)) ≡ groups_at text.now place.old.at Where.outside (nothing_declared vars.old) }
 {
     let mut counts = Counts::default();
     while let Some(group) = next_group(text, place) {
