@@ -17,6 +17,7 @@ use Rattle.formula.specs.declared.read.groups.Group.TheVariants as group
 use Rattle.formula.specs.Groups.{Declared, Where, outside, listed, dependent, dependencies, no_variable, variable_at, is_undeclared, is_universal, fresh, add_listed, add_existential, add_dependency, begun, inside, on_group, groups_from, groups_at, nothing_declared}
 use Rattle.formula.specs.Clauses.{Clauses, no_clause, add_clause, add_literal, names, clause_from, clauses_from}
 
+-- two tests, two choices and two readings whose parts agree
 cond_same : {X : Type 0} (b : Bool) (x y z : X) → (b ≡ false → y ≡ z) → cond b x y ≡ cond b x z
 cond_same true x y z h = refl
 cond_same false x y z h = h refl
@@ -58,6 +59,7 @@ module _ (known : ℕ) (ys : List Variable) where
   cond_front true v x r s h = (refl, tt)
   cond_front false v x r s h = h refl
 
+  -- a declaration of v that is refused where v is no fresh variable
   checked_front : (v : ℕ) (b k k' : Bool) (x y : Refusal) (r s : Result Declared Refusal) → (b ≡ false → k ≡ k') → (b ≡ false → Fronts v r s) → Fronts v (and_then (cond b (Err x) (cond k (Ok tt) (Err y))) (λ (z : Unit {0}). r)) (and_then (cond b (Err x) (cond k' (Ok tt) (Err y))) (λ (z : Unit {0}). s))
   checked_front v true k k' x y r s h i = (refl, tt)
   checked_front v false true true x y r s h i = i refl
@@ -71,6 +73,7 @@ module _ (known : ℕ) (ys : List Variable) where
       (λ h. ap (λ (y : Variable). is_undeclared y.kind) (at_front xs v l (in_front known v h)))
       (λ h. put_front u e xs v x l (in_front known v h))
 
+  -- the ways to declare, and a dependency
   existential_front : (d : Declared) (w : _) (v p : ℕ) → length d.table ≡ known → Fronts v (add_existential known (wider d) w v p) (add_existential known d w v p)
   existential_front d w v p l =
       cond_front (leb 4096 d.existentials) v _ _ _ (λ e. fresh_front d.universals _ d.table v p _ l)
@@ -89,6 +92,7 @@ module _ (known : ℕ) (ys : List Variable) where
       (cond_front (not (is_universal (variable_at d.table u).kind)) v _ _ _ (λ j.
       cond_front (has_bit (variable_at d.table v).dependencies (variable_at d.table u).position) v _ _ _ (λ k. put_front d.universals d.existentials d.table v _ l h))))
 
+  -- the reading that goes on behind a declaration, a word and a test
   then_front : (v : ℕ) (r s : Result Declared Refusal) (f g : Declared → Got Declared) → Fronts v r s → ((d : Declared) → length d.table ≡ known → v - 1 < known → f (wider d) ≡ all_wider (g d)) → and_then r f ≡ all_wider (and_then s g)
   then_front v r (Ok d) f g (e, (l, h)) more = ap (λ t. and_then t f) e ∙ more d l h
   then_front v r (Err x) f g (e, l) more = ap (λ t. and_then t f) e
@@ -112,6 +116,7 @@ module _ (known : ℕ) (ys : List Variable) where
   inside_within (group.Listed k) = tt
   inside_within group.Dependent = tt
 
+  -- the groups of a table, by those of its front
   pub groups_front : (ws : List Spelt) (m : Where) (d : Declared) (q size : ℕ) → length d.table ≡ known → Within m → groups_from known m (wider d) ws q size ≡ all_wider (groups_from known m d ws q size)
   groups_front [] outside d q size l h = refl
   groups_front (w ∷ ws) outside d q size l h =
@@ -135,6 +140,7 @@ module _ (known : ℕ) (ys : List Variable) where
       cond_wider (eqb u 0) _ _ _ _ (groups_front ws outside d (end_of w) size l tt)
       (then_front v _ _ _ _ (dependency_front d v u (start_of w) l h) (λ d' l' i. groups_front ws (dependencies v) d' (end_of w) size l' i)))
 
+  -- the literals and the clauses over a table, by those over its front
   module _ (xs : List Variable) (l : length xs ≡ known) where
     told_front : (v : ℕ) → eqb v 0 ≡ false → (ltb known v || is_undeclared (variable_at (xs ++ ys) v).kind) ≡ (ltb known v || is_undeclared (variable_at xs v).kind)
     told_front v above =

@@ -69,6 +69,7 @@ fn read_clause(
     ensures next { OnOk result (marks.new.clause ≡ marks.old.clause + 1) }
 {
     marks.next_clause();
+    // How many literals are read: a table that is too short is refused last of a literal's faults.
     let mut n = 0;
     loop {
         let (number, at) = read_literal(text, place)?;
