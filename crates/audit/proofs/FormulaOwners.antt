@@ -8,7 +8,8 @@ use Rattle.formula.specs.declared.tables.Kind.{Kind}
 use Rattle.formula.specs.declared.tables.Kind.TheVariants as kind
 use Rattle.formula.specs.declared.tables.Variable.{Variable}
 use Rattle.formula.specs.Groups.{no_variable, is_universal}
-use Rattle.audit.specs.FormulaAudit.{Owners, owners, free, owns, owns_by, on_some, records_own}
+use Rattle.audit.specs.declared.formulas.Owners.{Owners}
+use Rattle.audit.specs.FormulaAudit.{owners, free, owns, owns_by, on_some, records_own}
 
 abbrev pub is_existential : Kind → Bool
 is_existential kind.Undeclared = false
