@@ -12,7 +12,7 @@ use Rattle.formula.specs.declared.tables.Variable.{Variable}
 use Rattle.formula.specs.Groups.{no_variable, variable_at, is_universal}
 use Rattle.spelling.proofs.PrefixLaws.{Stands}
 use Rattle.audit.specs.declared.formulas.Owners.{Owners}
-use Rattle.audit.specs.FormulaAudit.{owners, free, owns_by, on_some, records_own, all_owned, undeclared_all, declared_lawful, variables_lawful}
+use Rattle.audit.specs.FormulaAudit.{owners, free, owns_by, on_some, records_own, all_owned, undeclared_all, variables_lawful}
 use Rattle.audit.proofs.FormulaOwners.{is_existential, Owner, Table, PlainBy, Plain, Owned, owned_start, Says, owned_all, own_all}
 
 -- a test that each entry passes
@@ -127,12 +127,12 @@ module _ (h : Head) (vs : List Variable) (fits : h.variables ≤ length vs) (few
 
   variables_are : variables_lawful h vs ≡ true → Variables h vs
   variables_are e =
-      let a = and_parts (declared_lawful h front) (undeclared_all (drop known vs)) e in
-      let (o, run, tests) = on_true (records_own h 1 front start) _ a.0 in
+      let (o, run, tests) = on_true (records_own h 1 front start) _ e in
       let w = finished o run in
       let us = positions h.universals o.universals in
       let es = positions h.existentials o.existentials in
-      let b = and_parts (all_owned us) (all_owned es) tests in
+      let a = and_parts (all_owned us && all_owned es) (undeclared_all (drop known vs)) tests in
+      let b = and_parts (all_owned us) (all_owned es) a.0 in
       record {
         universals = us;
         existentials = es;
@@ -162,9 +162,9 @@ module _ (h : Head) (vs : List Variable) (fits : h.variables ≤ length vs) (few
     are_variables =
         let (o, run) = own_all h r 1 front start says (omega arith) (owned_start h r few_universals few_existentials) (λ v p low high w. next_by (r v).kind v p low (omega (arith, count)) w refl) in
         let w = finished o run in
-        and_from (declared_lawful h front) (undeclared_all (drop known vs))
-        (ap (λ (m : Option Owners). on_some m false (λ p. all_owned (positions h.universals p.universals) && all_owned (positions h.existentials p.existentials))) run
+        ap (λ (m : Option Owners). on_some m false (λ p. all_owned (positions h.universals p.universals) && all_owned (positions h.existentials p.existentials) && undeclared_all (drop known vs))) run
         ∙ and_from _ _
+        (and_from _ _
         (owned h.universals o.universals w.universals_long is_universal r known w.universals a.universals a.universals_count a.universals_listed)
         (owned h.existentials o.existentials w.existentials_long is_existential r known w.existentials a.existentials a.existentials_count a.existentials_listed))
         a.rest

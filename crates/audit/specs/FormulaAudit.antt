@@ -62,14 +62,10 @@ undeclared x = is_undeclared x.kind && x.position == 0 && within_word x.dependen
 abbrev pub undeclared_all : List Variable → Bool
 undeclared_all xs = list_all undeclared xs
 
--- declared variables have lawful records, and each position up to the head's counts has an owner
-abbrev pub declared_lawful : Head → List Variable → Bool
-declared_lawful h vs =
-    on_some (records_own h 1 vs (owners (replicate 65 0) (replicate 4097 0))) false
-    (λ o. all_owned (take h.universals (drop 1 o.universals)) && all_owned (take h.existentials (drop 1 o.existentials)))
-
 abbrev pub variables_lawful : Head → List Variable → Bool
-variables_lawful h vs = declared_lawful h (take h.variables vs) && undeclared_all (drop h.variables vs)
+variables_lawful h vs =
+    on_some (records_own h 1 (take h.variables vs) (owners (replicate 65 0) (replicate 4097 0))) false
+    (λ o. all_owned (take h.universals (drop 1 o.universals)) && all_owned (take h.existentials (drop 1 o.existentials)) && undeclared_all (drop h.variables vs))
 
 -- literals of declared variables, behind those of the clause that came before, none named twice
 abbrev pub clause_lawful : List Variable → List Literal → List Literal → Bool

@@ -29,14 +29,10 @@ fn lawful_gates(inputs: u32, gates: &[Gate]) -> bool
     requires { inputs + length gates.now ≤ 60000 }
     ensures { result ≡ gates_lawful inputs gates.now }
 {
-    let mut own = 2 * inputs;
-    for gate in gates {
-        own += 2;
-        if gate.left >= own || gate.right >= own {
-            return false;
-        }
-    }
-    true
+    gates.iter().enumerate().all(|(g, gate)| {
+        let own = 2 * (inputs + g as u32 + 1);
+        gate.left < own && gate.right < own
+    })
 }
 
 // Whether an accepted reading of some text, of any length, leaves this head and these tables.

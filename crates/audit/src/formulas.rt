@@ -7,7 +7,7 @@ use super::all_are;
 use base::values::ValueWord;
 use formula::tables::{Clause, Head, Kind, Literal, Variable};
 
-pub mod marks;
+mod marks;
 
 fn lawful_head(head: Head, variables: usize, clauses: usize) -> bool
     ensures { result ≡ head_lawful head variables clauses }

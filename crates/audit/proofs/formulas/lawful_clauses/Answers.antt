@@ -1,4 +1,4 @@
-use Rattle.std.proofs.Common.{rules, arith}
+use Rattle.std.proofs.Common.{arith}
 use Rattle.formula.proofs.ClauseLaws.{marks_zero}
 use Rattle.audit.proofs.formulas.lawful_clauses.Goals as goal
 

@@ -1,4 +1,4 @@
-use Rattle.std.proofs.Common.{drop, ◌∙◌, rules}
+use Rattle.std.proofs.Common.{drop, rules}
 use Rattle.audit.specs.FormulaAudit.{undeclared}
 use Rattle.audit.proofs.TurnLaws.{records_all}
 use Rattle.audit.proofs.Undeclared.{record_same, undeclared_same, all_same}
