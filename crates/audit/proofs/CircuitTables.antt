@@ -1,5 +1,5 @@
 -- What the tests of the circuit audit say of its tables, and back.
-use Rattle.std.proofs.Common.{◌≡◌, ℕ, zero, suc, ◌+◌, ◌-◌, ◌*◌, ◌<◌, ◌≤◌, true, eqb, ltb, leb, List, [], ◌∷◌, ◌++◌, length, take, drop, replicate, Decides, sym, refl, ap, ◌∙◌, subst, ap₂, add-zero, arith}
+use Rattle.std.proofs.Common.{◌≡◌, ℕ, zero, suc, ◌+◌, ◌-◌, ◌*◌, ◌<◌, ◌≤◌, Bool, true, eqb, ltb, leb, List, [], ◌∷◌, ◌++◌, length, take, drop, replicate, Decides, sym, refl, ap, ◌∙◌, subst, ap₂, add-zero, arith}
 use Rattle.std.specs.List.{AllByRecursion, enumerate_from, list_all}
 use Rattle.std.proofs.lemmas.List.{take-append-drop, length-take-le, length-drop, take_at, drop_at}
 use Rattle.std.proofs.lemmas.Bool.{leb-true, le-leb, eqb-true, eq-eqb, and_parts, and_from}
@@ -10,7 +10,7 @@ use Rattle.circuit.specs.declared.tables.CircuitHead.{CircuitHead}
 use Rattle.circuit.specs.declared.tables.Gate.{Gate}
 use Rattle.circuit.specs.Reading.{no_gate}
 use Rattle.spelling.specs.CircuitGrammar.{OrderedFrom}
-use Rattle.audit.specs.CircuitAudit.{counts_lawful, outputs_lawful, below_own, gates_lawful, zero_outputs, zero_gates}
+use Rattle.audit.specs.CircuitAudit.{counts_lawful, outputs_lawful, below_own, gates_lawful, zero_outputs, zero_gate, zero_gates}
 
 -- the counts
 pub record Counts (h : CircuitHead) (outputs gates : ℕ) : Type 0 where
@@ -87,30 +87,34 @@ decides_gates i gs = (
   λ o. ordered_gates i 0 gs (subst (λ (n : ℕ). OrderedFrom n gs) (sym (add-zero i)) o),
 )
 
+-- entries that all pass a test which one entry alone passes are that entry, and back
+pub all_replicate : {X : Type 0} (test : X → Bool) (none : X) → ((x : X) → test x ≡ true → x ≡ none) → (xs : List X) → list_all test xs ≡ true → xs ≡ replicate (length xs) none
+all_replicate test none one [] e = refl
+all_replicate test none one (x ∷ xs) e =
+    let a = and_parts (test x) (list_all test xs) e in
+    ap₂ ◌∷◌ (one x a.0) (all_replicate test none one xs a.1)
+
+pub replicate_all : {X : Type 0} (test : X → Bool) (none : X) → test none ≡ true → (n : ℕ) → list_all test (replicate n none) ≡ true
+replicate_all test none e zero = refl
+replicate_all test none e (suc n) = and_from (test none) (list_all test (replicate n none)) e (replicate_all test none e n)
+
 -- zeros
 pub outputs_zero : (os : List ℕ) → zero_outputs os ≡ true → os ≡ replicate (length os) 0
-outputs_zero [] e = refl
-outputs_zero (o ∷ os) e =
-    let a = and_parts (eqb o 0) (zero_outputs os) e in
-    ap₂ ◌∷◌ (eqb-true o 0 a.0) (outputs_zero os a.1)
+outputs_zero os e = all_replicate (λ o. eqb o 0) 0 (λ o. eqb-true o 0) os e
 
 pub zeros_outputs : (n : ℕ) → zero_outputs (replicate n 0) ≡ true
-zeros_outputs zero = refl
-zeros_outputs (suc n) = zeros_outputs n
+zeros_outputs n = replicate_all (λ o. eqb o 0) 0 refl n
 
-gate_zero : (g : Gate) → g.left ≡ 0 → g.right ≡ 0 → g ≡ no_gate
-gate_zero g l r = ap₂ (λ (x y : ℕ). record { left = x; right = y }) l r
+gate_zero : (g : Gate) → zero_gate g ≡ true → g ≡ no_gate
+gate_zero g e =
+    let a = and_parts (eqb g.left 0) (eqb g.right 0) e in
+    ap₂ (λ (x y : ℕ). record { left = x; right = y }) (eqb-true g.left 0 a.0) (eqb-true g.right 0 a.1)
 
 pub gates_zero : (gs : List Gate) → zero_gates gs ≡ true → gs ≡ replicate (length gs) no_gate
-gates_zero [] e = refl
-gates_zero (g ∷ gs) e =
-    let a = and_parts _ (zero_gates gs) e in
-    let b = and_parts (eqb g.left 0) (eqb g.right 0) a.0 in
-    ap₂ ◌∷◌ (gate_zero g (eqb-true g.left 0 b.0) (eqb-true g.right 0 b.1)) (gates_zero gs a.1)
+gates_zero gs e = all_replicate zero_gate no_gate gate_zero gs e
 
 pub zeros_gates : (n : ℕ) → zero_gates (replicate n no_gate) ≡ true
-zeros_gates zero = refl
-zeros_gates (suc n) = zeros_gates n
+zeros_gates n = replicate_all zero_gate no_gate refl n
 
 -- a table whose rest is empty is padded, and back
 pub table_padded : {X : Type 0} (none : X) (xs : List X) (n : ℕ) → n ≤ length xs → drop n xs ≡ replicate (length (drop n xs)) none → xs ≡ padded none (take n xs) (length xs)

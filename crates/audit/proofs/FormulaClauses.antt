@@ -1,5 +1,5 @@
 -- What the audit's tests say of the clauses, and back: the tables hold a lawful matrix.
-use Rattle.std.proofs.Common.{◌≡◌, ℕ, zero, suc, ◌+◌, ◌-◌, ◌≤◌, Bool, true, false, cond, not, ◌&&◌, ◌||◌, eqb, leb, List, [], ◌∷◌, ◌++◌, map, length, take, drop, replicate, Some, None, Option, sym, refl, ap, ◌∙◌, subst, ap₂, add-zero, arith}
+use Rattle.std.proofs.Common.{◌≡◌, ℕ, suc, ◌+◌, ◌-◌, ◌≤◌, Bool, true, false, cond, not, ◌&&◌, ◌||◌, eqb, leb, List, [], ◌∷◌, ◌++◌, map, length, take, drop, replicate, Some, None, Option, sym, refl, ap, ◌∙◌, subst, ap₂, add-zero, arith}
 use Rattle.std.specs.List.{AllByRecursion}
 use Rattle.std.proofs.ByRecursion.{All-weaker}
 use Rattle.std.proofs.lemmas.List.{append_assoc, append-nil, length-append, length-drop, length-take-le, map-append, take-append-drop, take-take, take_at, drop_at, drop-drop, drop-take}
@@ -15,7 +15,7 @@ use Rattle.formula.specs.Reading.{no_span, no_literal}
 use Rattle.spelling.specs.Dqbf.{member, Distinct, literal_variable, LawfulClause, literals_of, spans_from}
 use Rattle.spelling.proofs.PrefixLaws.{distinct_push, distinct_next}
 use Rattle.audit.specs.FormulaAudit.{on_some, clause_lawful, spans_end, zero_spans, zero_span, zero_literals, zero_literal, clauses_lawful}
-use Rattle.audit.proofs.CircuitTables.{table_padded, padded_front, padded_rest}
+use Rattle.audit.proofs.CircuitTables.{all_replicate, replicate_all, table_padded, padded_front, padded_rest}
 use Rattle.audit.proofs.FormulaOwners.{some_same, no_some}
 use Rattle.audit.proofs.FormulaVariables.{on_true}
 
@@ -41,27 +41,15 @@ length_spans at [] = refl
 length_spans at (c ∷ m) = ap suc (length_spans (at + length c) m)
 
 -- zeros
-spans_zero : (ss : List Clause) → zero_spans ss ≡ true → ss ≡ replicate (length ss) no_span
-spans_zero [] e = refl
-spans_zero (s ∷ ss) e =
-    let a = and_parts (zero_span s) (zero_spans ss) e in
-    let b = and_parts (eqb s.first 0) (eqb s.len 0) a.0 in
-    ap₂ ◌∷◌ (ap₂ (λ (x y : ℕ). record { first = x; len = y }) (eqb-true s.first 0 b.0) (eqb-true s.len 0 b.1)) (spans_zero ss a.1)
+span_zero : (s : Clause) → zero_span s ≡ true → s ≡ no_span
+span_zero s e =
+    let a = and_parts (eqb s.first 0) (eqb s.len 0) e in
+    ap₂ (λ (x y : ℕ). record { first = x; len = y }) (eqb-true s.first 0 a.0) (eqb-true s.len 0 a.1)
 
-zeros_spans : (n : ℕ) → zero_spans (replicate n no_span) ≡ true
-zeros_spans zero = refl
-zeros_spans (suc n) = zeros_spans n
-
-literals_zero : (ls : List Literal) → zero_literals ls ≡ true → ls ≡ replicate (length ls) no_literal
-literals_zero [] e = refl
-literals_zero (l ∷ ls) e =
-    let a = and_parts (zero_literal l) (zero_literals ls) e in
-    let b = and_parts (eqb l.variable 0) (not l.negative) a.0 in
-    ap₂ ◌∷◌ (ap₂ (λ (x : ℕ) (y : Bool). record { variable = x; negative = y }) (eqb-true l.variable 0 b.0) (not-true l.negative b.1)) (literals_zero ls a.1)
-
-zeros_literals : (n : ℕ) → zero_literals (replicate n no_literal) ≡ true
-zeros_literals zero = refl
-zeros_literals (suc n) = zeros_literals n
+literal_zero : (l : Literal) → zero_literal l ≡ true → l ≡ no_literal
+literal_zero l e =
+    let a = and_parts (eqb l.variable 0) (not l.negative) e in
+    ap₂ (λ (x : ℕ) (y : Bool). record { variable = x; negative = y }) (eqb-true l.variable 0 a.0) (not-true l.negative a.1)
 
 -- the clauses that spans cut out, the first from `at`
 abbrev matrix_of : ℕ → List Clause → List Literal → List (List Literal)
@@ -175,8 +163,8 @@ module _ (vs : List Variable) where
           matrix = m;
           count = sym (length_spans 0 m) ∙ ap length cut.spans ∙ count;
           lawful = cut.lawful;
-          clauses = table_padded no_span cs h.clauses fits (spans_zero (drop h.clauses cs) a.0) ∙ ap (λ (l : List Clause). padded no_span l (length cs)) (sym cut.spans);
-          literals = table_padded no_literal ls end cut.within (literals_zero (drop end ls) a.1) ∙ ap (λ (l : List Literal). padded no_literal l (length ls)) (sym cut.literals);
+          clauses = table_padded no_span cs h.clauses fits (all_replicate zero_span no_span span_zero (drop h.clauses cs) a.0) ∙ ap (λ (l : List Clause). padded no_span l (length cs)) (sym cut.spans);
+          literals = table_padded no_literal ls end cut.within (all_replicate zero_literal no_literal literal_zero (drop end ls) a.1) ∙ ap (λ (l : List Literal). padded no_literal l (length ls)) (sym cut.literals);
           fits = omega (arith, long, cut.within);
         }
 
@@ -191,5 +179,5 @@ module _ (vs : List Variable) where
         ap₂ (λ (x : List Variable) (ss : List Clause). spans_end x 0 ss ls) same front ∙ has_spans 0 m ls (replicate (length ls - length (literals_of m)) no_literal) (omega arith) w.literals w.lawful in
         ap (λ (x : Option ℕ). on_some x false (λ end. zero_spans (drop h.clauses cs) && zero_literals (drop end ls))) run
         ∙ and_from _ _
-        (ap zero_spans back ∙ zeros_spans (length cs - length (spans_from 0 m)))
-        (ap zero_literals behind ∙ zeros_literals (length ls - length (literals_of m)))
+        (ap zero_spans back ∙ replicate_all zero_span no_span refl (length cs - length (spans_from 0 m)))
+        (ap zero_literals behind ∙ replicate_all zero_literal no_literal refl (length ls - length (literals_of m)))
