@@ -1,8 +1,10 @@
 -- What the audit's tests say of the clauses, and back: the tables hold a lawful matrix.
-use Rattle.std.proofs.Common.{◌≡◌, ℕ, suc, ◌+◌, ◌-◌, ◌≤◌, Bool, true, false, cond, not, ◌&&◌, ◌||◌, eqb, leb, List, [], ◌∷◌, ◌++◌, map, length, take, drop, replicate, Some, None, Option, sym, refl, ap, ◌∙◌, subst, ap₂, add-zero, arith}
+use Rattle.std.proofs.Common.{◌≡◌, ℕ, suc, ◌+◌, ◌-◌, ◌≤◌, Bool, true, false, cond, not, ◌&&◌, eqb, leb, List, [], ◌∷◌, ◌++◌, map, length, take, drop, replicate, Some, None, Option, sym, refl, ap, ◌∙◌, subst, ap₂, add-zero, arith}
 use Rattle.std.specs.List.{AllByRecursion}
 use Rattle.std.proofs.ByRecursion.{All-weaker}
-use Rattle.std.proofs.lemmas.List.{append_assoc, append-nil, length-append, length-drop, length-take-le, map-append, take-append-drop, take-take, take_at, drop_at, drop-drop, drop-take}
+use Rattle.std.proofs.lemmas.List.{append_assoc, append-nil, length-append, length-drop, length-take-le, map-append, take_at, drop_at, drop-drop}
+use Rattle.std.proofs.Math.Seq.{take-add}
+use Rattle.std.proofs.lemmas.Option.{none-some, same_Some}
 use Rattle.std.proofs.lemmas.Bool.{and_parts, and_from, cond-true, eqb-true, eq-eqb, leb-true, le-leb, not-true, not-false, not_from_true, not_from_false}
 use Rattle.words.specs.Tables.{padded}
 use Rattle.formula.specs.declared.tables.Clause.{Clause}
@@ -13,28 +15,19 @@ use Rattle.formula.specs.Groups.{variable_at, is_undeclared}
 use Rattle.formula.specs.Clauses.{names}
 use Rattle.formula.specs.Reading.{no_span, no_literal}
 use Rattle.spelling.specs.Dqbf.{member, Distinct, literal_variable, LawfulClause, literals_of, spans_from}
+use Rattle.spelling.proofs.MatrixLaw.{names_member}
 use Rattle.spelling.proofs.PrefixLaws.{distinct_push, distinct_next}
 use Rattle.audit.specs.FormulaAudit.{on_some, clause_lawful, spans_end, zero_spans, zero_span, zero_literals, zero_literal, clauses_lawful}
 use Rattle.audit.proofs.CircuitTables.{all_replicate, replicate_all, table_padded, padded_front, padded_rest}
-use Rattle.audit.proofs.FormulaOwners.{some_same, no_some}
 use Rattle.audit.proofs.FormulaVariables.{on_true}
-
-names_member : (v : ℕ) (ls : List Literal) → names v ls ≡ member v (map literal_variable ls)
-names_member v [] = refl
-names_member v (l ∷ ls) = ap (λ b. eqb l.variable v || b) (names_member v ls)
 
 -- a literal of a variable that the records declare
 abbrev Named : List Variable → Literal → Type 0
 Named vs l = (1 ≤ l.variable) × (l.variable ≤ length vs) × (is_undeclared (variable_at vs l.variable).kind ≡ false)
 
--- parts of lists
-take_add : {X : Type 0} (m n : ℕ) (xs : List X) → take (m + n) xs ≡ take m xs ++ take n (drop m xs)
-take_add m n xs =
-    sym (take-append-drop m (take (m + n) xs)) ∙ ap₂ ◌++◌ (take-take m (m + n) xs (omega arith)) (drop-take m n xs)
-
 cond_goes : {X : Type 0} (b : Bool) (m : Option X) (y : X) → cond b m None ≡ Some y → (b ≡ true) × (m ≡ Some y)
 cond_goes true m y e = (refl, e)
-cond_goes false m y e = absurd (no_some y e)
+cond_goes false m y e = absurd (none-some y e)
 
 length_spans : (at : ℕ) (m : List (List Literal)) → length (spans_from at m) ≡ length m
 length_spans at [] = refl
@@ -114,7 +107,7 @@ module _ (vs : List Variable) where
 
     spans_has : (at : ℕ) (ss : List Clause) (ls : List Literal) (end : ℕ) → at ≤ length ls → spans_end vs at ss ls ≡ Some end → Cut at ss ls end declared
     spans_has at [] ls end inside e =
-        let same : at ≡ end = some_same at end e in
+        let same : at ≡ end = same_Some at end e in
         record { within = omega arith; spans = refl; literals = append-nil (take at ls) ∙ ap (λ n. take n ls) same; lawful = tt }
     spans_has at (s ∷ ss) ls end inside e =
         let c = take s.len (drop at ls) in
@@ -131,7 +124,7 @@ module _ (vs : List Variable) where
         record {
           within = rest.within;
           spans = ap₂ ◌∷◌ (ap₂ (λ (x y : ℕ). record { first = x; len = y }) (sym first) long) (ap (λ n. spans_from (at + n) m) long ∙ rest.spans);
-          literals = sym (append_assoc (take at ls) c (literals_of m)) ∙ ap (λ l. l ++ literals_of m) (sym (take_add at s.len ls)) ∙ rest.literals;
+          literals = sym (append_assoc (take at ls) c (literals_of m)) ∙ ap (λ l. l ++ literals_of m) (sym (take-add at s.len ls)) ∙ rest.literals;
           lawful = (clause_has c (omega arith) a.1, rest.lawful);
         }
 

@@ -1,6 +1,7 @@
 -- The owners of positions, as the audit enters them record by record.
-use Rattle.std.proofs.Common.{◌≡◌, ℕ, suc, ◌+◌, ◌<◌, ◌≤◌, Bool, true, false, cond, ◌&&◌, eqb, leb, ◌⊎◌, List, [], ◌∷◌, length, get_or, set, replicate, Some, None, Option, sym, refl, ap, ◌∙◌, subst, inl, inr, ⊎_elim, add-zero, arith}
+use Rattle.std.proofs.Common.{◌≡◌, ℕ, suc, ◌+◌, ◌<◌, ◌≤◌, Bool, true, false, ◌&&◌, eqb, leb, ◌⊎◌, List, [], ◌∷◌, length, get_or, set, replicate, Some, None, Option, sym, refl, ap, ◌∙◌, subst, inl, inr, ⊎_elim, add-zero, arith}
 use Rattle.std.proofs.lemmas.List.{get_or-replicate, get_or_past, get_or-set_same, get_or-set_other, length-replicate, length-set}
+use Rattle.std.proofs.lemmas.Option.{cond_some, none-some, same_Some}
 use Rattle.std.proofs.lemmas.Bool.{both_ways, cases_eq, cases_lt, and_parts, leb-true, eqb-true}
 use Rattle.base.specs.Words.{empty_word, first_word, within_word}
 use Rattle.formula.specs.declared.tables.Head.{Head}
@@ -112,18 +113,8 @@ owned_start h r few_universals few_existentials =
       existentials_long = omega (arith, length-replicate {A = ℕ} 4097 0);
     }
 
-pub some_same : {X : Type 0} (x y : X) → Some x ≡ Some y → x ≡ y
-some_same x y e = cc
-
-pub no_some : {X : Type 0} (y : X) → ◌≡◌ {A = Option X} None (Some y) → ⊥
-no_some y e = let z : ◌≡◌ {A = ℕ} 0 1 = cc in omega arith
-
-cond_some : {X : Type 0} (b : Bool) (x y : X) → cond b (Some x) None ≡ Some y → (b ≡ true) × (x ≡ y)
-cond_some true x y e = (refl, some_same x y e)
-cond_some false x y e = absurd (no_some y e)
-
 pub some_cases : {X Y : Type 0} (m : Option X) (f : X → Option Y) (y : Y) → on_some m None f ≡ Some y → (x : X) × (m ≡ Some x) × (f x ≡ Some y)
-some_cases None f y e = absurd (no_some y e)
+some_cases None f y e = absurd (none-some y e)
 some_cases (Some x) f y e = (x, refl, e)
 
 -- one more record
@@ -188,7 +179,7 @@ says_rest r v x xs says j h = let shift : v + suc j ≡ v + 1 + j = omega arith 
 -- all records
 pub owned_all : (h : Head) (r : ℕ → Variable) (v : ℕ) (xs : List Variable) (o o' : Owners) → Says r v xs → 1 ≤ v → Owned h r v o → records_own h v xs o ≡ Some o' → Owned h r (v + length xs) o'
 owned_all h r v [] o o' says some w e =
-    subst (λ (k : ℕ). Owned h r k o') (sym (add-zero v)) (subst (Owned h r v) (some_same o o' e) w)
+    subst (λ (k : ℕ). Owned h r k o') (sym (add-zero v)) (subst (Owned h r v) (same_Some o o' e) w)
 owned_all h r v (x ∷ xs) o o' says some w e =
     let (q, first, rest) = some_cases (owns h v x o) (λ p. records_own h (v + 1) xs p) o' e in
     let is = says_first r v x xs says in

@@ -22,7 +22,7 @@ fn lawful_head(head: Head, variables: usize, clauses: usize) -> bool
 }
 
 // The variable that has each position among the universals and among the existentials. No variable has number 0, so
-// a 0 is a position that none has.
+// a 0 stands for none: an Option would double the arrays.
 #[derive(Drop)]
 struct Owners {
     universals: [u32; 65],
