@@ -1,5 +1,6 @@
 -- What the audit's tests say of the clauses, and back: the tables hold a lawful matrix.
 use Rattle.std.proofs.Common.{◌≡◌, ℕ, suc, ◌+◌, ◌-◌, ◌≤◌, Bool, true, false, cond, not, ◌&&◌, eqb, leb, List, [], ◌∷◌, ◌++◌, map, length, take, drop, replicate, Some, None, Option, sym, refl, ap, ◌∙◌, subst, ap₂, add-zero, arith}
+use Rattle.std.specs.Option.{option_map_or}
 use Rattle.std.specs.List.{AllByRecursion}
 use Rattle.std.proofs.ByRecursion.{All-weaker}
 use Rattle.std.proofs.lemmas.List.{append_assoc, append-nil, length-append, length-drop, length-take-le, map-append, take_at, drop_at, drop-drop}
@@ -17,7 +18,7 @@ use Rattle.formula.specs.Reading.{no_span, no_literal}
 use Rattle.spelling.specs.Dqbf.{member, Distinct, literal_variable, LawfulClause, literals_of, spans_from}
 use Rattle.spelling.proofs.MatrixLaw.{names_member}
 use Rattle.spelling.proofs.PrefixLaws.{distinct_push, distinct_next}
-use Rattle.audit.specs.FormulaAudit.{on_some, clause_lawful, spans_end, zero_spans, zero_span, zero_literals, zero_literal, clauses_lawful}
+use Rattle.audit.specs.FormulaAudit.{clause_lawful, spans_end, zero_spans, zero_span, zero_literals, zero_literal, clauses_lawful}
 use Rattle.audit.proofs.CircuitTables.{all_replicate, replicate_all, table_padded, padded_front, padded_rest}
 use Rattle.audit.proofs.FormulaVariables.{on_true}
 
@@ -170,7 +171,7 @@ module _ (vs : List Variable) where
         let behind = padded_rest no_literal ls (literals_of m) (length ls) (0 + length (literals_of m)) (omega arith) w.literals in
         let run : spans_end (take h.variables all) 0 (take h.clauses cs) ls ≡ Some (0 + length (literals_of m)) =
         ap₂ (λ (x : List Variable) (ss : List Clause). spans_end x 0 ss ls) same front ∙ has_spans 0 m ls (replicate (length ls - length (literals_of m)) no_literal) (omega arith) w.literals w.lawful in
-        ap (λ (x : Option ℕ). on_some x false (λ end. zero_spans (drop h.clauses cs) && zero_literals (drop end ls))) run
+        ap (λ (x : Option ℕ). option_map_or (λ end. zero_spans (drop h.clauses cs) && zero_literals (drop end ls)) x false) run
         ∙ and_from _ _
         (ap zero_spans back ∙ replicate_all zero_span no_span refl (length cs - length (spans_from 0 m)))
         (ap zero_literals behind ∙ replicate_all zero_literal no_literal refl (length ls - length (literals_of m)))

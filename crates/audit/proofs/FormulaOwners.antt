@@ -1,5 +1,6 @@
 -- The owners of positions, as the audit enters them record by record.
 use Rattle.std.proofs.Common.{◌≡◌, ℕ, suc, ◌+◌, ◌<◌, ◌≤◌, Bool, true, false, ◌&&◌, eqb, leb, ◌⊎◌, List, [], ◌∷◌, length, get_or, set, replicate, Some, None, Option, sym, refl, ap, ◌∙◌, subst, inl, inr, ⊎_elim, add-zero, arith}
+use Rattle.std.specs.Option.{option_and_then}
 use Rattle.std.proofs.lemmas.List.{get_or-replicate, get_or_past, get_or-set_same, get_or-set_other, length-replicate, length-set}
 use Rattle.std.proofs.lemmas.Option.{cond_some, none-some, same_Some}
 use Rattle.std.proofs.lemmas.Bool.{both_ways, cases_eq, cases_lt, and_parts, leb-true, eqb-true}
@@ -10,7 +11,7 @@ use Rattle.formula.specs.declared.tables.Kind.TheVariants as kind
 use Rattle.formula.specs.declared.tables.Variable.{Variable}
 use Rattle.formula.specs.Groups.{no_variable, is_universal}
 use Rattle.audit.specs.declared.formulas.Owners.{Owners}
-use Rattle.audit.specs.FormulaAudit.{owners, free, owns, owns_by, on_some, records_own}
+use Rattle.audit.specs.FormulaAudit.{owners, free, owns, owns_by, records_own}
 
 abbrev pub is_existential : Kind → Bool
 is_existential kind.Undeclared = false
@@ -113,7 +114,7 @@ owned_start h r few_universals few_existentials =
       existentials_long = omega (arith, length-replicate {A = ℕ} 4097 0);
     }
 
-pub some_cases : {X Y : Type 0} (m : Option X) (f : X → Option Y) (y : Y) → on_some m None f ≡ Some y → (x : X) × (m ≡ Some x) × (f x ≡ Some y)
+pub some_cases : {X Y : Type 0} (m : Option X) (f : X → Option Y) (y : Y) → option_and_then f m ≡ Some y → (x : X) × (m ≡ Some x) × (f x ≡ Some y)
 some_cases None f y e = absurd (none-some y e)
 some_cases (Some x) f y e = (x, refl, e)
 
@@ -194,4 +195,4 @@ own_all h r v (x ∷ xs) o says some w next =
     let is = says_first r v x xs says in
     let (q, e) = next v o some (omega arith) w in
     let (o', rest) = own_all h r (v + 1) xs q (says_rest r v x xs says) (omega arith) (owned_more h r v o q some w e) (λ u p low high. next u p low (omega arith)) in
-    (o', ap (λ (m : Option Owners). on_some m None (λ p. records_own h (v + 1) xs p)) (ap (λ (y : Variable). owns h v y o) is ∙ e) ∙ rest)
+    (o', ap (λ (m : Option Owners). option_and_then (λ p. records_own h (v + 1) xs p) m) (ap (λ (y : Variable). owns h v y o) is ∙ e) ∙ rest)

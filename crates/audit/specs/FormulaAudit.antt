@@ -1,5 +1,6 @@
 -- Formula tables that an accepted reading leaves.
 use Rattle.std.specs.Prelude.{◌≡◌, ℕ, ◌+◌, ◌-◌, ◌<◌, Bool, true, false, cond, not, ◌&&◌, List, [], ◌∷◌, ◌++◌, length, take, drop, replicate, Some, None, Ok, Option, ◌==◌, nat_le, slice_index, slice_set}
+use Rattle.std.specs.Option.{option_and_then, option_map_or}
 use Rattle.std.specs.List.{AllByRecursion, list_all}
 use Rattle.base.specs.Words.{empty_word, first_word, within_word}
 use Rattle.words.specs.Words.{words_from}
@@ -23,10 +24,6 @@ head_lawful h variables clauses =
 abbrev pub owners : List ℕ → List ℕ → Owners
 owners us es = record { universals = us; existentials = es }
 
-abbrev pub told_owns : Bool → Owners → Option Owners
-told_owns true o = Some o
-told_owns false o = None
-
 -- a position from 1 to n that has no owner yet
 abbrev pub free : ℕ → List ℕ → ℕ → Bool
 free n os k = nat_le 1 k && nat_le k n && slice_index os k == 0
@@ -44,14 +41,10 @@ owns_by kind.Existential h v x o =
 abbrev pub owns : Head → ℕ → Variable → Owners → Option Owners
 owns h v x o = owns_by x.kind h v x o
 
-abbrev pub on_some : {X Y : Type 0} → Option X → Y → (X → Y) → Y
-on_some None y f = y
-on_some (Some x) y f = f x
-
 -- the records from variable v on
 abbrev pub records_own : Head → ℕ → List Variable → Owners → Option Owners
 records_own h v [] o = Some o
-records_own h v (x ∷ xs) o = on_some (owns h v x o) None (λ o'. records_own h (v + 1) xs o')
+records_own h v (x ∷ xs) o = option_and_then (λ o'. records_own h (v + 1) xs o') (owns h v x o)
 
 abbrev pub all_owned : List ℕ → Bool
 all_owned os = list_all (λ o. not (o == 0)) os
@@ -64,8 +57,9 @@ undeclared_all xs = list_all undeclared xs
 
 abbrev pub variables_lawful : Head → List Variable → Bool
 variables_lawful h vs =
-    on_some (records_own h 1 (take h.variables vs) (owners (replicate 65 0) (replicate 4097 0))) false
+    option_map_or
     (λ o. all_owned (take h.universals (drop 1 o.universals)) && all_owned (take h.existentials (drop 1 o.existentials)) && undeclared_all (drop h.variables vs))
+    (records_own h 1 (take h.variables vs) (owners (replicate 65 0) (replicate 4097 0))) false
 
 -- literals of declared variables, behind those of the clause that came before, none named twice
 abbrev pub clause_lawful : List Variable → List Literal → List Literal → Bool
@@ -95,7 +89,7 @@ zero_literals ls = list_all zero_literal ls
 
 abbrev pub clauses_lawful : Head → List Variable → List Clause → List Literal → Bool
 clauses_lawful h vs cs ls =
-    on_some (spans_end (take h.variables vs) 0 (take h.clauses cs) ls) false (λ end. zero_spans (drop h.clauses cs) && zero_literals (drop end ls))
+    option_map_or (λ end. zero_spans (drop h.clauses cs) && zero_literals (drop end ls)) (spans_end (take h.variables vs) 0 (take h.clauses cs) ls) false
 
 -- what the audit computes
 abbrev pub formula_lawful : Head → List Variable → List Clause → List Literal → Bool

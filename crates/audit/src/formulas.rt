@@ -1,6 +1,7 @@
 // The audit of formula tables.
 ghost use Rattle.std.specs.Prelude.{◌≡◌, ◌+◌, ◌<◌, ◌≤◌, [], true, length, Decides, slice_set};
-ghost use Rattle.audit.specs.FormulaAudit.{head_lawful, free, owns, told_owns, all_owned, variables_lawful, clause_lawful, clauses_lawful, formula_lawful, LeftByAFormulaText};
+ghost use Rattle.std.specs.Bool.{then_some};
+ghost use Rattle.audit.specs.FormulaAudit.{head_lawful, free, owns, all_owned, variables_lawful, clause_lawful, clauses_lawful, formula_lawful, LeftByAFormulaText};
 
 use self::marks::Marks;
 use super::all_are;
@@ -48,7 +49,7 @@ impl Owners {
     fn own(&mut self, head: Head, v: u32, variable: Variable) -> bool
         requires universals { head.universals ≤ 64 }
         requires existentials { head.existentials ≤ 4096 }
-        ensures { told_owns result self.new ≡ owns head v variable self.old }
+        ensures { then_some result self.new ≡ owns head v variable self.old }
     {
         let Variable {
             kind,
