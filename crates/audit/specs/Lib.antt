@@ -1,3 +1,3 @@
 pub mod CircuitAudit
-pub mod Each
 pub mod FormulaAudit
+pub mod Named

@@ -1,5 +1,4 @@
 // The rows of a formula and of a circuit, owned.
-ghost use Rattle.std.specs.Prelude.{◌≡◌};
 
 use circuit::tables::{CircuitHead, Gate};
 use formula::tables::{Clause, Head, Literal, Variable};

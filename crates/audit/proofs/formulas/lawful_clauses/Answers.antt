@@ -1,6 +1,6 @@
-use Rattle.std.proofs.Common.{rules}
-use Rattle.std.proofs.lemmas.List.{take_rest}
+use Rattle.std.proofs.Common.{arith}
+use Rattle.formula.proofs.ClauseLaws.{marks_zero}
 use Rattle.audit.proofs.formulas.lawful_clauses.Goals as goal
 
-pub returns-then-all_zero_spans : goal.returns-then-all_zero_spans
-returns-then-all_zero_spans c = search (rules, take_rest)
+pub invariant_of-marks : goal.invariant_of-marks
+invariant_of-marks c = record { stamped = λ v. let zero = marks_zero 65536 v in omega arith }

@@ -1,16 +1,9 @@
 use Rattle.std.proofs.Common.{Ok, sym, ap, ◌∙◌, subst, ap₂}
 use Rattle.std.proofs.lemmas.List.{with_items_is}
-use Rattle.std.proofs.lemmas.Result.{IfOk-from_err}
 use Rattle.models.specs.HeldTables.{RowsOfCircuit}
 use Rattle.texts.specs.Spelled.{ReadsCircuit}
 use Rattle.texts.proofs.CircuitRead.{circuit_rows_in, accepted_rows, refused_rows, accepted_reads, refused_reads}
 use Rattle.texts.proofs.read.circuit_rows.Goals as goal
-
-pub returns-in_err-gates : goal.returns-in_err-gates
-returns-in_err-gates c =
-    let failed = c.from_residual-in_err-gates.ensures.0 in
-    let r = c.from_residual-in_err-gates.result in
-    record { is = IfOk-from_err r _ failed; spelt = IfOk-from_err r _ failed }
 
 pub returns-in-Ok : goal.returns-in-Ok
 returns-in-Ok c =

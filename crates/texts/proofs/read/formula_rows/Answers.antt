@@ -1,24 +1,11 @@
 use Rattle.std.proofs.Common.{Ok, sym, ap, ◌∙◌, subst}
 use Rattle.std.proofs.lemmas.List.{with_items_is}
-use Rattle.std.proofs.lemmas.Result.{IfOk-from_err}
 use Rattle.formula.specs.Reading.{Tables}
 use Rattle.models.specs.HeldTables.{RowsOfFormula}
 use Rattle.texts.specs.Spelled.{ReadsFormula}
 use Rattle.texts.proofs.FormulaRead.{Lent, rows_same, accepted_rows, refused_rows, accepted_reads, refused_reads}
 use Rattle.texts.proofs.read.formula_rows.Goals as goal
 use Rattle.texts.proofs.read.formula_rows.Goals.{After-read_formula}
-
-pub returns-in_err-clauses : goal.returns-in_err-clauses
-returns-in_err-clauses c =
-    let failed = c.from_residual-in_err-clauses.ensures.0 in
-    let r = c.from_residual-in_err-clauses.result in
-    record { is = IfOk-from_err r _ failed; spelt = IfOk-from_err r _ failed }
-
-pub returns-in_err-literals : goal.returns-in_err-literals
-returns-in_err-literals c =
-    let failed = c.from_residual-in_err-literals.ensures.0 in
-    let r = c.from_residual-in_err-literals.result in
-    record { is = IfOk-from_err r _ failed; spelt = IfOk-from_err r _ failed }
 
 -- the tables that the reader was lent, before and after
 abbrev was : After-read_formula → Tables
