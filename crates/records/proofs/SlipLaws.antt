@@ -44,10 +44,6 @@ refuses_slip bs e r s h front =
     let z : ◌≡◌ {A = ℕ} 0 1 = cc in
     omega arith
 
--- What a writer of a slip's bytes answers reads back as the slip.
-pub slip_back : (s : Slip) (r : List ℕ) → r ≡ slip_bytes s → LawfulSlip s → slip_from r ≡ Ok s
-slip_back s r e h = ap slip_from e ∙ slip_reads s [] h
-
 -- The other way: bytes that begin as a slip does and have the bytes of three fields are those sixteen and others behind.
 pub fields_whole : (bs : List ℕ) (case clauses goal : ℕ) → begins_slip bs ≡ true →
     bytes_of 4 case ≡ elements bs 4 4 → bytes_of 4 clauses ≡ elements bs 8 4 → bytes_of 4 goal ≡ elements bs 12 4 →

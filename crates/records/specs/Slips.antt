@@ -1,11 +1,27 @@
 -- Slips: length 14, version 1, the verdict, and three numbers of four bytes.
-use Rattle.std.specs.Prelude.{◌≡◌, ℕ, ◌^◌, ◌<◌, ◌≤◌, Bool, cond, ◌&&◌, List, ◌∷◌, ◌++◌, length, take, Ok, Err, Result, ◌==◌, ◌≢◌, nat_le, nat_lt, slice_index}
+use Rattle.std.specs.Prelude.{◌≡◌, ℕ, ◌^◌, ◌<◌, ◌≤◌, Bool, true, false, cond, ◌&&◌, List, ◌∷◌, ◌++◌, length, take, Ok, Err, Result, ◌==◌, ◌≢◌, nat_le, nat_lt, slice_index}
 use Rattle.base.specs.declared.faults.Fault.{Fault}
 use Rattle.base.specs.Causes.{Refusal, told, refused}
 use Rattle.records.specs.declared.slip.Slip.{Slip}
 use Rattle.records.specs.declared.slip.Slip.TheVariants as slip
+use Rattle.records.specs.declared.slip.Verdict.{Verdict}
+use Rattle.records.specs.declared.slip.Verdict.TheVariants as verdict
 use Rattle.records.specs.Bytes.{bytes_of}
 use Rattle.records.specs.Records.{field}
+
+-- what a slip says of its case
+abbrev pub verdict_of : Slip → Verdict
+verdict_of (slip.True case clauses) = verdict.True
+verdict_of (slip.False case clauses) = verdict.False
+verdict_of (slip.Unproved case clauses goal) = verdict.Unproved
+verdict_of (slip.Stray case) = verdict.Stray
+
+-- whether it says True or False
+abbrev pub decided : Slip → Bool
+decided (slip.True case clauses) = true
+decided (slip.False case clauses) = true
+decided (slip.Unproved case clauses goal) = false
+decided (slip.Stray case) = false
 
 -- the number of each verdict
 abbrev pub verdict_number : Slip → ℕ

@@ -2,6 +2,7 @@
 #![tactic(auto)]
 
 mod numbers;
+mod print;
 pub mod record;
 pub mod slip;
 pub mod step;

@@ -1,7 +1,7 @@
 // Slips: the sixteen bytes that say how a case ended.
 ghost use Rattle.std.specs.Prelude.{◌≡◌, Ok};
 ghost use Rattle.base.specs.Causes.{answered, told};
-ghost use Rattle.records.specs.Slips.{LawfulSlip, MadeBy, ReadsSlip, malformed, fields_bytes, slip_bytes, slip_by, slip_from};
+ghost use Rattle.records.specs.Slips.{LawfulSlip, MadeBy, ReadsSlip, case_of, clauses_of, decided, goal_of, malformed, slip_bytes, slip_by, slip_from, verdict_of};
 
 use super::numbers::u32_of;
 use base::faults::{Cause, Fault, Layer};
@@ -16,6 +16,75 @@ pub enum Slip {
     Stray { case: u32 },
 }
 
+// What a slip says of its case, with its number in the slip's bytes.
+#[derive(Clone, Copy, PartialEq, Eq, Debug)]
+pub enum Verdict {
+    True = 1,
+    False = 2,
+    Unproved = 3,
+    Stray = 4,
+}
+
+// What stands in a slip's bytes: a field that the slip has not is 0.
+pub(crate) struct Fields {
+    pub(crate) verdict: Verdict,
+    pub(crate) case: u32,
+    pub(crate) clauses: u32,
+    pub(crate) goal: u32,
+}
+
+impl Slip {
+    // What the slip says of its case.
+    pub fn verdict(self) -> Verdict
+        ensures { result ≡ verdict_of self }
+    {
+        match self {
+            Slip::True { .. } => Verdict::True,
+            Slip::False { .. } => Verdict::False,
+            Slip::Unproved { .. } => Verdict::Unproved,
+            Slip::Stray { .. } => Verdict::Stray,
+        }
+    }
+
+    // Whether the slip says True or False.
+    pub fn is_decided(self) -> bool
+        ensures { result ≡ decided self }
+    {
+        matches!(self, Slip::True { .. } | Slip::False { .. })
+    }
+
+    // What stands in the slip's bytes.
+    pub(crate) fn fields(self) -> Fields
+        ensures { result ≡ record { verdict = verdict_of self; case = case_of self; clauses = clauses_of self; goal = goal_of self } }
+    {
+        let verdict = self.verdict();
+        match self {
+            Slip::True { case, clauses } | Slip::False { case, clauses } => Fields {
+                verdict,
+                case,
+                clauses,
+                goal: 0,
+            },
+            Slip::Unproved {
+                case,
+                clauses,
+                goal,
+            } => Fields {
+                verdict,
+                case,
+                clauses,
+                goal,
+            },
+            Slip::Stray { case } => Fields {
+                verdict,
+                case,
+                clauses: 0,
+                goal: 0,
+            },
+        }
+    }
+}
+
 // The most clauses that a shelf holds.
 const MOST_CLAUSES: u32 = 1_000_000;
 
@@ -27,26 +96,16 @@ pub fn write_slip(slip: Slip) -> [u8; 16]
     ensures is { result ≡ slip_bytes slip }
     ensures back { LawfulSlip slip → slip_from result ≡ Ok slip }
 {
-    match slip {
-        Slip::True { case, clauses } => join_fields(1, case, clauses, 0),
-        Slip::False { case, clauses } => join_fields(2, case, clauses, 0),
-        Slip::Unproved {
-            case,
-            clauses,
-            goal,
-        } => join_fields(3, case, clauses, goal),
-        Slip::Stray { case } => join_fields(4, case, 0, 0),
-    }
-}
-
-// The sixteen bytes of a slip with this verdict's number and these fields.
-fn join_fields(verdict: u8, case: u32, clauses: u32, goal: u32) -> [u8; 16]
-    ensures { result ≡ fields_bytes verdict case clauses goal }
-{
+    let Fields {
+        verdict,
+        case,
+        clauses,
+        goal,
+    } = slip.fields();
     let [a, b, c, d] = case.to_be_bytes();
     let [e, f, g, h] = clauses.to_be_bytes();
     let [i, j, k, l] = goal.to_be_bytes();
-    [0, 14, 1, verdict, a, b, c, d, e, f, g, h, i, j, k, l]
+    [0, 14, 1, verdict as u8, a, b, c, d, e, f, g, h, i, j, k, l]
 }
 
 // Reads a slip from the first sixteen bytes.
