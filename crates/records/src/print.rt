@@ -1,5 +1,5 @@
 // How premises, steps, verdicts and slips are printed.
-use super::slip::{Fields, Slip, Verdict};
+use super::slip::{Slip, Verdict};
 use super::step::{Premise, Step};
 use std::fmt;
 
@@ -50,12 +50,7 @@ impl fmt::Display for Verdict {
 
 impl fmt::Display for Slip {
     fn fmt<W: fmt::Write>(&self, f: &mut fmt::Formatter<W>) -> fmt::Result {
-        let Fields {
-            verdict,
-            case,
-            clauses,
-            goal,
-        } = self.fields();
+        let (verdict, case, clauses, goal) = self.fields();
         write!(
             f,
             "{verdict}, case {case}, clauses {clauses}, open goal {goal}"
