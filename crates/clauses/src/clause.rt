@@ -58,6 +58,7 @@ fn join_all<L: Literal + Copy>(
     ensures answer { told_clause result row.new ≡ filed (join L.Alike.like L.Literal.opposite except (joined (take start row.old) false) more.now) }
     ensures kept { row.new ≡ over (join L.Alike.like L.Literal.opposite except (joined (take start row.old) false) more.now).clause row.old }
 {
+    // The row is lent: its first literals are the clause.
     let mut len = start;
     // After a clash the joining goes on: the row has to hold the other literals too.
     let mut clash = false;
