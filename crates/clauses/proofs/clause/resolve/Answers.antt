@@ -1,8 +1,7 @@
 use Rattle.std.proofs.Common.{◌≡◌, ◌-◌, false, List, ◌++◌, length, take, drop, Some, None, sym, refl, ap, ◌∙◌, arith}
 use Rattle.std.proofs.lemmas.Bool.{cond-true, cond-false}
 use Rattle.clauses.specs.Clauses.{joined, join, filed, over, told_clause}
-use Rattle.clauses.proofs.LoopLaws.{join_grows}
-use Rattle.clauses.proofs.RowLaws.{pivot_none, pivot_is, take_over, over_over, length_without, by_pivot}
+use Rattle.clauses.proofs.RowLaws.{join_grows, pivot_none, pivot_is, take_over, over_over, length_without, by_pivot}
 use Rattle.clauses.proofs.clause.resolve.Goals as goal
 
 pub returns-then-position-eq0 : goal.returns-then-position-eq0
