@@ -23,7 +23,7 @@ impl Alike for Entry {
     ghost transitive = { same_through };
 
     fn alike(&self, other: &Entry) -> bool {
-        self.code == other.code && self.values.equals(other.values)
+        self == other
     }
 }
 
@@ -45,7 +45,7 @@ impl Literal for Entry {
     fn complement(&self) -> Entry {
         Entry {
             code: self.code ^ 1,
-            values: self.values,
+            ..*self
         }
     }
 }
