@@ -342,8 +342,8 @@ drop_there [] behind pivot = refl
 drop_there (x ∷ before) behind pivot = drop_there before behind pivot
 
 pivot_bounds : (xs : List Entry) (p : ℕ) (c : Entry) → pivot_at complement_entry xs p ≡ Some c → (1 ≤ p) × (p ≤ length xs)
-pivot_bounds [] p c e = let z : ◌≡◌ {A = ℕ} 0 1 = cc in absurd (omega arith)
-pivot_bounds (x ∷ xs) zero c e = let z : ◌≡◌ {A = ℕ} 0 1 = cc in absurd (omega arith)
+pivot_bounds [] p c e = absurd (cc)
+pivot_bounds (x ∷ xs) zero c e = absurd (cc)
 pivot_bounds (x ∷ xs) (suc zero) c e = (omega arith, omega arith)
 pivot_bounds (x ∷ xs) (suc (suc n)) c e =
     let less : suc (suc n) - 1 ≡ suc n = omega arith in

@@ -11,7 +11,7 @@ use Rattle.records.specs.declared.step.Premise.{Premise}
 use Rattle.records.specs.declared.step.Step.{Step}
 use Rattle.records.specs.declared.step.Step.TheVariants as step
 use Rattle.engine.specs.Shelves.{clause_at, has_room}
-use Rattle.engine.specs.Plain.{Rules, State, on_ok, on_case, here, judged, file, numbered, open_case, premise_step, resolve_step, is_settled, are_there, settle_step, step_result}
+use Rattle.engine.specs.Plain.{Rules, State, on_ok, on_some, here, judged, file, numbered, open_case, premise_step, resolve_step, is_settled, are_there, settle_step, step_result}
 use Rattle.engine.specs.Histories.{Once, Consistent, Resolvent, Filed, Allows, premise, resolve, TooMuch, Accepted, Refused, Settles}
 use Rattle.engine.specs.Lawful.{LawfulSteps, LawfulSettlings}
 use Rattle.engine.proofs.RowLaws.{err_ok, same_ok}
@@ -36,7 +36,7 @@ resolved_parts (Some x) first second position d k pe e =
 
 module _ (r : Rules) (s : State) (k : ℕ) (opened : s.case ≡ Some k) (fits : AllByRecursion Fit s.list) where
   open_is : {X : Type 0} (x : Result X Refusal) → open_case s x ≡ x
-  open_is {X} x = ap (λ (o : Option ℕ). on_case o (Err (here s 15)) (λ _. x)) opened
+  open_is {X} x = ap (λ (o : Option ℕ). on_some o (Err (here s 15)) (λ _. x)) opened
 
   pub fit_at : (n : ℕ) → Filed s.list n → Fit (clause_at s.list n)
   fit_at n f =

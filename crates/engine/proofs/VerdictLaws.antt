@@ -56,7 +56,7 @@ module _ {S F : Type 0} (side : SideGhosts S) (shelf : ShelfGhosts F) where
     pub reached_open : (n : ℕ) (x : Result Ticket Fault) → Opens side shelf n x was is → Reached side shelf list (calls ++ runs.opens n ∷ []) is
     reached_open n x o = reached_by (runs.opens n) o.state o.kept
 
-    pub reached_step : (p : Step) (x : Result ℕ Fault) → Steps side shelf (step_result (rules_of side shelf was) (state_of side shelf was) p) x was is → Reached side shelf list (calls ++ runs.steps p ∷ []) is
+    pub reached_step : (p : Step) (x : Result ℕ Fault) → Steps side shelf (λ r s. step_result r s p) x was is → Reached side shelf list (calls ++ runs.steps p ∷ []) is
     reached_step p x o = reached_by (runs.steps p) o.state o.kept
 
     pub reached_take : (bytes : List ℕ) (x : Result ℕ Fault) (used : ℕ) → Takes side shelf bytes x used was is → Reached side shelf list (calls ++ runs.takes bytes ∷ []) is
