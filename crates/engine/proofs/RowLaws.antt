@@ -1,7 +1,7 @@
 -- Rows with a clause at their front, and how long a clause is that was told.
-use Rattle.std.proofs.Common.{◌≡◌, ℕ, ◌+◌, ◌≤◌, min, true, ◌&&◌, leb, List, length, take, Ok, Err, Result, Vec, sym, refl, ap, ◌∙◌, arith}
+use Rattle.std.proofs.Common.{◌≡◌, ℕ, ◌+◌, ◌-◌, [], subst, ◌≤◌, min, true, ◌&&◌, leb, List, length, take, Ok, Err, Result, Vec, sym, refl, ap, ◌∙◌, arith}
 use Rattle.std.proofs.lemmas.List.{take_all, with_items_is}
-use Rattle.std.proofs.lemmas.Bool.{cond-true, le-leb, leb-true, and_parts}
+use Rattle.std.proofs.lemmas.Bool.{cond-true, cond-false, le-leb, leb-true, ne_eqb, and_parts}
 use Rattle.base.specs.declared.faults.Cause.{Cause}
 use Rattle.base.specs.declared.faults.Fault.{Fault}
 use Rattle.base.specs.Causes.{told, cause_number}
@@ -11,8 +11,11 @@ use Rattle.clauses.specs.Laid.{told_count}
 use Rattle.clauses.proofs.RowLaws.{take_over}
 use Rattle.clauses.specs.Worlds.{same_entry, complement_entry}
 use Rattle.engine.specs.Laid.{Laid}
-use Rattle.engine.specs.Plain.{State, here, judged, numbered}
+use Rattle.engine.specs.Plain.{Rules, State, here, judged, numbered, are_there}
 use Rattle.engine.specs.Shelves.{clause_at}
+use Rattle.engine.specs.Histories.{Filed}
+use Rattle.std.specs.List.{AllByRecursion}
+use Rattle.std.proofs.ByRecursion.{All-get_or}
 use Rattle.std.specs.Vec.{with_items}
 
 pub err_ok : {X Y : Type 0} (x : X) (y : Y) → ◌≡◌ {A = Result X Y} (Err y) (Ok x) → ⊥
@@ -71,3 +74,24 @@ resolved_is p q c d at position r was is k e f o room =
 pub numbered_short : (s : State) (n : ℕ) → numbered s n ≡ true → length (clause_at s.list n) ≤ 1024
 numbered_short s n e =
     leb-true (length (clause_at s.list n)) 1024 (and_parts (leb 1 n && leb n (length s.list)) (leb (length (clause_at s.list n)) 1024) e).1
+
+-- and it is filed
+pub numbered_filed : (s : State) (n : ℕ) → numbered s n ≡ true → Filed s.list n
+numbered_filed s n e =
+    let a = and_parts (leb 1 n && leb n (length s.list)) (leb (length (clause_at s.list n)) 1024) e in
+    let b = and_parts (leb 1 n) (leb n (length s.list)) a.0 in
+    (leb-true 1 n b.0, leb-true n (length s.list) b.1)
+
+-- what holds of all clauses holds of a filed one
+pub filed_all : (P : List Entry → Type 0) (cs : List (List Entry)) (n : ℕ) → AllByRecursion P cs → Filed cs n → P (clause_at cs n)
+filed_all P cs n h f =
+    let low : 1 ≤ n = f.0 in
+    let high : n ≤ length cs = f.1 in
+    subst P (sym (cond-false _ _ _ (ne_eqb n 0 (λ z. omega arith)))) (All-get_or P cs (n - 1) [] (omega arith) h)
+
+-- a goal and a clause that are there
+pub there_parts : (r : Rules) (s : State) (g c : ℕ) → are_there r s g c ≡ true → (1 ≤ g) × (g ≤ r.goals) × (numbered s c ≡ true)
+there_parts r s g c e =
+    let a = and_parts (leb 1 g && leb g r.goals) (numbered s c) e in
+    let b = and_parts (leb 1 g) (leb g r.goals) a.0 in
+    (leb-true 1 g b.0, leb-true g r.goals b.1, a.1)

@@ -24,7 +24,7 @@ use Rattle.engine.specs.Plain.{Rules, State, start, on_ok, on_some, here, judged
 use Rattle.engine.specs.Runs.{Call, opens, steps, takes, closes, ends, opened_state, stepped_state, next, opened_answer, stepped_answer, taken_answer, answer, run, answers}
 use Rattle.engine.specs.Means.{rules_with}
 use Rattle.engine.specs.Verdicts.{Concluded, SlipHolds}
-use Rattle.engine.proofs.RowLaws.{err_ok, same_ok}
+use Rattle.engine.proofs.RowLaws.{err_ok, same_ok, numbered_filed, filed_all, there_parts}
 
 pub none_some : (k : ℕ) → ◌≡◌ {A = Option ℕ} None (Some k) → ⊥
 none_some k e = cc
@@ -122,12 +122,7 @@ module _ {S : Type 0} (side : SideGhosts S) (s : S) where
   stepped_well was (Err e) h w = h
 
   clause_true : (st : State) (n : ℕ) → AllByRecursion True st.list → numbered st n ≡ true → True (clause_at st.list n)
-  clause_true st n h e =
-      let a = and_parts (leb 1 n && leb n (length st.list)) (leb (length (clause_at st.list n)) 1024) e in
-      let b = and_parts (leb 1 n) (leb n (length st.list)) a.0 in
-      let low : 1 ≤ n = leb-true 1 n b.0 in
-      let high : n ≤ length st.list = leb-true n (length st.list) b.1 in
-      subst True (sym (cond-false _ _ _ (ne_eqb n 0 (λ z. omega arith)))) (All-get_or True st.list (n - 1) [] (omega arith) h)
+  clause_true st n h e = filed_all True st.list n h (numbered_filed st n e)
 
   module _ (most width : ℕ) where
     abbrev r : Rules
@@ -188,9 +183,9 @@ module _ {S : Type 0} (side : SideGhosts S) (s : S) where
         (λ inside.
         cond_both (is_settled st g) _ _ StepsWell (λ _. errs_well _)
         (λ _.
-        let a = and_parts (leb 1 g && leb g (side.goals s)) (numbered st c) there in
-        let low : 1 ≤ g = leb-true 1 g (and_parts (leb 1 g) (leb g (side.goals s)) a.0).0 in
-        let t : True (side.goal s g) = (λ m. contained_true (side.world s m) (clause_at st.list c) (side.goal s g) inside (clause_true st c (h k e).clauses a.1 m)) in
+        let a = there_parts r st g c there in
+        let low : 1 ≤ g = a.0 in
+        let t : True (side.goal s g) = (λ m. contained_true (side.world s m) (clause_at st.list c) (side.goal s g) inside (clause_true st c (h k e).clauses a.2 m)) in
         ok_well _
         (λ k₁ e₁.
         record {
