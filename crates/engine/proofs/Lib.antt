@@ -1,5 +1,4 @@
 pub mod RowLaws
-pub mod StepLaws
 pub mod Soundness
 pub mod RunLaws
 pub mod ClauseRelations

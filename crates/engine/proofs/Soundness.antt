@@ -4,7 +4,7 @@ use Rattle.std.proofs.Common.{◌≡◌, ℕ, zero, suc, ◌+◌, ◌-◌, ◌<�
 use Rattle.std.specs.List.{AllByRecursion}
 use Rattle.std.proofs.ByRecursion.{All-get_or, All-push}
 use Rattle.std.proofs.lemmas.List.{get_or-set_other}
-use Rattle.std.proofs.lemmas.Bool.{false≢true, cond_both, cond-true, cond-false, cases_Bool, cases_eq, and_parts, leb-true, eqb-true, ne_eqb}
+use Rattle.std.proofs.lemmas.Bool.{false≢true, cond_both, cond-true, cond-false, cases_Bool, cases_eq, and_parts, leb-true, ne_eqb}
 use Rattle.base.specs.Causes.{Refusal}
 use Rattle.clauses.specs.declared.entry.Entry.{Entry}
 use Rattle.clauses.specs.Worlds.{same_entry, complement_entry, true_in}
@@ -20,16 +20,17 @@ use Rattle.engine.specs.declared.side.Side.{Ghosts as SideGhosts}
 use Rattle.engine.specs.declared.side.Verdict.{Verdict}
 use Rattle.engine.specs.declared.side.Verdict.TheVariants as verdict
 use Rattle.engine.specs.Shelves.{clause_at, has_room}
-use Rattle.engine.specs.Plain.{Rules, State, start, on_ok, on_case, here, judged, opened, file, numbered, premise_step, resolve_step, is_settled, are_there, settle_step, step_result, take_result, take_used, lowest_open, verdict_slip, is_case, close_slip, closed}
-use Rattle.engine.specs.Runs.{Call, opens, steps, takes, closes, ends, opened_state, stepped_state, next, opened_answer, stepped_answer, taken_answer, answer, run, answers, rules_with, Sound}
+use Rattle.engine.specs.Plain.{Rules, State, start, on_ok, on_some, here, judged, opened, file, numbered, premise_step, resolve_step, is_settled, are_there, settle_step, step_result, take_result, take_used, lowest_open, verdict_slip, is_case, close_slip, closed}
+use Rattle.engine.specs.Runs.{Call, opens, steps, takes, closes, ends, opened_state, stepped_state, next, opened_answer, stepped_answer, taken_answer, answer, run, answers}
+use Rattle.engine.specs.Means.{rules_with}
 use Rattle.engine.specs.Verdicts.{Concluded, SlipHolds}
-use Rattle.engine.proofs.RowLaws.{err_ok, same_ok}
+use Rattle.engine.proofs.RowLaws.{err_ok, same_ok, numbered_filed, filed_all, there_parts}
 
 pub none_some : (k : ℕ) → ◌≡◌ {A = Option ℕ} None (Some k) → ⊥
-none_some k e = let z : ◌≡◌ {A = ℕ} 0 1 = cc in omega arith
+none_some k e = cc
 
 -- ways through the plain case's tests
-pub case_both : {X : Type 0} (P : X → Type 0) (o : Option ℕ) (x : X) (f : ℕ → X) → (o ≡ None → P x) → ((k : ℕ) → o ≡ Some k → P (f k)) → P (on_case o x f)
+pub case_both : {X : Type 0} (P : X → Type 0) (o : Option ℕ) (x : X) (f : ℕ → X) → (o ≡ None → P x) → ((k : ℕ) → o ≡ Some k → P (f k)) → P (on_some o x f)
 case_both P None x f p q = p refl
 case_both P (Some k) x f p q = q k refl
 
@@ -57,38 +58,38 @@ none_settled (suc n) zero = refl
 none_settled (suc n) (suc i) = none_settled n i
 
 -- where no goal from g on is the lowest open one, all are settled
-pub lowest_all : (st : State) (n g : ℕ) → 1 ≤ g → lowest_open st g n ≡ 0 → (k : ℕ) → g ≤ k → k < g + n → is_settled st k ≡ true
-lowest_all st zero g pos e k l h = absurd (omega arith)
-lowest_all st (suc n) g pos e k l h =
+pub lowest_all : (st : State) (n g : ℕ) → lowest_open st g n ≡ None → (k : ℕ) → g ≤ k → k < g + n → is_settled st k ≡ true
+lowest_all st zero g e k l h = absurd (omega arith)
+lowest_all st (suc n) g e k l h =
     ⊎_elim
     (λ t.
     ⊎_elim
     (λ same. subst (λ (i : ℕ). is_settled st i ≡ true) (sym same) t)
-    (λ other. lowest_all st n (g + 1) (omega arith) (sym (cond-true _ _ _ t) ∙ e) k (let o : k ≡ g → ⊥ = other in omega arith) (omega arith))
+    (λ other. lowest_all st n (g + 1) (sym (cond-true _ _ _ t) ∙ e) k (let o : k ≡ g → ⊥ = other in omega arith) (omega arith))
     (cases_eq k g))
-    (λ f. let z : g ≡ 0 = sym (cond-false _ _ _ f) ∙ e in absurd (omega arith))
+    (λ f. absurd (none_some g (sym e ∙ cond-false _ _ _ f)))
     (cases_Bool (is_settled st g))
 
 stray_never : (v : Verdict) (n m c : ℕ) → slip.Stray n ≡ verdict_slip v m c → ⊥
-stray_never verdict.True n m c e = let z : ◌≡◌ {A = ℕ} 0 1 = cc in omega arith
-stray_never verdict.False n m c e = let z : ◌≡◌ {A = ℕ} 0 1 = cc in omega arith
+stray_never verdict.True n m c e = cc
+stray_never verdict.False n m c e = cc
 
 pub unproved_never : (v : Verdict) (n k g m c : ℕ) → slip.Unproved n k g ≡ verdict_slip v m c → ⊥
-unproved_never verdict.True n k g m c e = let z : ◌≡◌ {A = ℕ} 0 1 = cc in omega arith
-unproved_never verdict.False n k g m c e = let z : ◌≡◌ {A = ℕ} 0 1 = cc in omega arith
+unproved_never verdict.True n k g m c e = cc
+unproved_never verdict.False n k g m c e = cc
 
 -- which answers are no slips
 opened_never : (n : ℕ) (o : Result State Refusal) (x : Slip) → opened_answer n o ≡ ends x → ⊥
-opened_never n (Ok st) x e = let z : ◌≡◌ {A = ℕ} 0 1 = cc in omega arith
-opened_never n (Err f) x e = let z : ◌≡◌ {A = ℕ} 0 1 = cc in omega arith
+opened_never n (Ok st) x e = cc
+opened_never n (Err f) x e = cc
 
 stepped_never : (o : Result (ℕ × State) Refusal) (x : Slip) → stepped_answer o ≡ ends x → ⊥
-stepped_never (Ok y) x e = let z : ◌≡◌ {A = ℕ} 0 1 = cc in omega arith
-stepped_never (Err f) x e = let z : ◌≡◌ {A = ℕ} 0 1 = cc in omega arith
+stepped_never (Ok y) x e = cc
+stepped_never (Err f) x e = cc
 
 taken_never : (used : ℕ) (o : Result (ℕ × State) Refusal) (x : Slip) → taken_answer used o ≡ ends x → ⊥
-taken_never used (Ok y) x e = let z : ◌≡◌ {A = ℕ} 0 1 = cc in omega arith
-taken_never used (Err f) x e = let z : ◌≡◌ {A = ℕ} 0 1 = cc in omega arith
+taken_never used (Ok y) x e = cc
+taken_never used (Err f) x e = cc
 
 same_ends : (x y : Slip) → ends x ≡ ends y → x ≡ y
 same_ends x y e = cc
@@ -121,12 +122,7 @@ module _ {S : Type 0} (side : SideGhosts S) (s : S) where
   stepped_well was (Err e) h w = h
 
   clause_true : (st : State) (n : ℕ) → AllByRecursion True st.list → numbered st n ≡ true → True (clause_at st.list n)
-  clause_true st n h e =
-      let a = and_parts (leb 1 n && leb n (length st.list)) (leb (length (clause_at st.list n)) 1024) e in
-      let b = and_parts (leb 1 n) (leb n (length st.list)) a.0 in
-      let low : 1 ≤ n = leb-true 1 n b.0 in
-      let high : n ≤ length st.list = leb-true n (length st.list) b.1 in
-      subst True (sym (cond-false _ _ _ (ne_eqb n 0 (λ z. omega arith)))) (All-get_or True st.list (n - 1) [] (omega arith) h)
+  clause_true st n h e = filed_all True st.list n h (numbered_filed st n e)
 
   module _ (most width : ℕ) where
     abbrev r : Rules
@@ -187,9 +183,9 @@ module _ {S : Type 0} (side : SideGhosts S) (s : S) where
         (λ inside.
         cond_both (is_settled st g) _ _ StepsWell (λ _. errs_well _)
         (λ _.
-        let a = and_parts (leb 1 g && leb g (side.goals s)) (numbered st c) there in
-        let low : 1 ≤ g = leb-true 1 g (and_parts (leb 1 g) (leb g (side.goals s)) a.0).0 in
-        let t : True (side.goal s g) = (λ m. contained_true (side.world s m) (clause_at st.list c) (side.goal s g) inside (clause_true st c (h k e).clauses a.1 m)) in
+        let a = there_parts r st g c there in
+        let low : 1 ≤ g = a.0 in
+        let t : True (side.goal s g) = (λ m. contained_true (side.world s m) (clause_at st.list c) (side.goal s g) inside (clause_true st c (h k e).clauses a.2 m)) in
         ok_well _
         (λ k₁ e₁.
         record {
@@ -239,20 +235,19 @@ module _ {S : Type 0} (side : SideGhosts S) (s : S) where
     run_well st [] h = h
     run_well st (c ∷ cs) h = run_well (next r st c) cs (next_well st c h)
 
-    all_true : (st : State) → Holds st.list st.settled → lowest_open st 1 (side.goals s) ≡ 0 → Concluded side s
+    all_true : (st : State) → Holds st.list st.settled → lowest_open st 1 (side.goals s) ≡ None → Concluded side s
     all_true st h e =
-        let goals : (g : ℕ) → 1 ≤ g → g ≤ side.goals s → True (side.goal s g) = (λ g low high. h.goals g low (lowest_all st (side.goals s) 1 (omega arith) e g low (omega arith))) in
+        let goals : (g : ℕ) → 1 ≤ g → g ≤ side.goals s → True (side.goal s g) = (λ g low high. h.goals g low (lowest_all st (side.goals s) 1 e g low (omega arith))) in
         record { accepted = h.accepts; goals = goals; meaning = side.conclusion s h.accepts goals }
 
     slip_well : (st : State) (n : ℕ) → Stands st → SlipHolds side s (close_slip r st n)
     slip_well st n h m clauses =
         cond_both (is_case st n) _ _ (λ (x : Slip). x ≡ verdict_slip (side.says s) m clauses → Concluded side s)
         (λ own.
-        cond_both (eqb (lowest_open st 1 (side.goals s)) 0) _ _ (λ (x : Slip). x ≡ verdict_slip (side.says s) m clauses → Concluded side s)
+        case_both (λ (x : Slip). x ≡ verdict_slip (side.says s) m clauses → Concluded side s) (lowest_open st 1 (side.goals s)) _ _
         (λ none _.
-        case_both (λ (b : Bool). b ≡ true → Concluded side s) st.case false (λ k. eqb k n) (λ _ f. absurd (false≢true f))
-        (λ k e _. all_true st (h k e) (eqb-true (lowest_open st 1 (side.goals s)) 0 none)) own)
-        (λ _ q. absurd (unproved_never (side.says s) _ _ _ m clauses q)))
+        case_both (λ (b : Bool). b ≡ true → Concluded side s) st.case false (λ k. eqb k n) (λ _ f. absurd (false≢true f)) (λ k e _. all_true st (h k e) none) own)
+        (λ g _ q. absurd (unproved_never (side.says s) _ _ g m clauses q)))
         (λ _ q. absurd (stray_never (side.says s) n m clauses q))
 
     answer_well : (st : State) (c : Call) → Stands st → (x : Slip) → answer r st c ≡ ends x → SlipHolds side s x
@@ -275,7 +270,3 @@ module _ {S : Type 0} (side : SideGhosts S) (s : S) where
     -- and so do the slips among the answers of more calls
     pub sound_answers : (list : List (List Entry)) (before cs : List Call) → AllByRecursion (λ a. (x : Slip) → a ≡ ends x → SlipHolds side s x) (answers r (run r (start list) before) cs)
     sound_answers list before cs = answers_well (run r (start list) before) cs (start_well list before)
-
-  -- every slip with the side's verdict says that every goal is true in every world
-  pub sound : Sound side s
-  sound most width list calls n clauses e = (sound_closing most width list calls n n clauses e).goals
