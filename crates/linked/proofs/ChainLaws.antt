@@ -1,5 +1,6 @@
 -- Laws of chains: how often a place stands in them, and what a change of other blocks leaves.
-use Rattle.std.proofs.Common.{◌≡◌, ℕ, zero, suc, ◌+◌, ◌<◌, ◌≤◌, eqb, ltb, List, [], ◌∷◌, ◌++◌, length, get_or, take, sym, refl, ap, ◌∙◌, inl, inr, arith}
+use Rattle.std.proofs.Common.{◌≡◌, ℕ, zero, suc, ◌+◌, ◌-◌, ◌<◌, ◌≤◌, eqb, ltb, List, [], ◌∷◌, ◌++◌, length, get_or, set, take, sym, refl, ap, ◌∙◌, inl, inr, arith}
+use Rattle.std.proofs.lemmas.List.{get_or-set_other}
 use Rattle.std.proofs.lemmas.Bool.{lt-ltb, le-ltb, eq-eqb, ne_eqb, cond-true, cond-false, cases_lt, cases_eq}
 use Rattle.linked.specs.declared.blocks.Block.{Block}
 use Rattle.linked.specs.declared.blocks.Chain.{Chain}
@@ -51,6 +52,10 @@ below_more n b l =
           ])
     ]
 
+-- a chain is its first block, and the chain that its link begins
+pub chain_first : (blocks : List Block) (m head : ℕ) → 0 < m → chain blocks m head ≡ head ∷ chain blocks (m - 1) (get_or blocks head no_block).next
+chain_first blocks m head h = let e : m ≡ suc (m - 1) = omega arith in ap (λ n. chain blocks n head) e
+
 module _ (old new : List Block) where
   -- a chain is as it was if its blocks are
   pub chain_same : (m head : ℕ) → ((b : ℕ) → 1 ≤ times b (chain old m head) → get_or new b no_block ≡ get_or old b no_block) → chain new m head ≡ chain old m head
@@ -85,6 +90,13 @@ module _ (old new : List Block) where
       let one = held_same (blocks_for r.length) r.head (λ b t. same b (let e = times_append b (places old r) (chains old rows) in omega arith)) in
       let rest = clauses_same rows (λ b t. same b (let e = times_append b (places old r) (chains old rows) in omega arith)) in
       ap (λ l. take r.length l ∷ clauses_of new rows) one ∙ ap (λ l. clause_of old r ∷ l) rest
+
+-- and so if a block is written that it does not go through
+pub chain_written : (blocks : List Block) (m head place : ℕ) (x : Block) → times place (chain blocks m head) ≡ 0 → chain (set blocks place x) m head ≡ chain blocks m head
+chain_written blocks m head place x none =
+    chain_same blocks (set blocks place x) m head
+    (λ b t. get_or-set_other blocks place b x no_block
+    (λ e. let again : times b (chain blocks m head) ≡ times place (chain blocks m head) = ap (λ k. times k (chain blocks m head)) e in omega arith))
 
 pub length_chain : (blocks : List Block) (m head : ℕ) → length (chain blocks m head) ≡ m
 length_chain blocks zero head = refl

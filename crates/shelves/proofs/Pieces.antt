@@ -1,10 +1,9 @@
 -- Laws of a row that is cut into clauses.
-use Rattle.std.proofs.Common.{◌≡◌, ℕ, zero, suc, ◌+◌, ◌-◌, ◌<◌, ◌≤◌, min, true, eqb, leb, ◌⊎◌, List, [], ◌∷◌, ◌++◌, length, get_or, take, drop, sym, refl, ap, ◌∙◌, inl, inr, arith, length-drop, length-take}
+use Rattle.std.proofs.Common.{◌≡◌, ℕ, zero, suc, ◌+◌, ◌-◌, ◌<◌, ◌≤◌, true, eqb, leb, List, [], ◌∷◌, ◌++◌, length, get_or, take, drop, refl, ap, ◌∙◌, arith, length-drop}
 use Rattle.std.proofs.lemmas.List.{drop_at, take_all, drop-append-le, take-append-le, get_or_past}
-use Rattle.std.proofs.lemmas.Bool.{and_parts, and_from, leb-true, eqb-true, eq-eqb, le-leb, cases_lt}
+use Rattle.std.proofs.lemmas.Bool.{and_parts, and_from, leb-true, eqb-true, eq-eqb, le-leb}
 use Rattle.std.proofs.lemmas.Bool.Decides.{nat_tests}
 use Rattle.clauses.specs.declared.entry.Entry.{Entry}
-use Rattle.clauses.specs.Clauses.{over}
 use Rattle.engine.specs.Shelves.{entries_in, clause_at}
 use Rattle.shelves.specs.Cut.{cut, rising, rising_low, length_cut, total_cut}
 
@@ -60,21 +59,6 @@ clause_none ends row n k e h =
     let past = get_or_past (cut 0 ends row) k [] (omega arith) in
     grind (arith, nat_tests)
 
--- how many clauses there are, and how many entries they have, by the lengths of the two rows
-pub cut_count : (ends : List ℕ) (row : List Entry) (m : ℕ) → m ≡ length ends → m ≡ length (cut 0 ends row)
-cut_count ends row m e = let l = length_cut 0 ends row in omega arith
-
+-- how many entries the clauses have, by the length of the row
 pub cut_entries : (ends : List ℕ) (row : List Entry) (u : ℕ) → u ≡ length row → rising 0 ends u ≡ true → u ≡ entries_in (cut 0 ends row)
 cut_entries ends row u e r = let t : 0 + entries_in (cut 0 ends row) ≡ u = total_cut 0 ends row u e r in omega arith
-
--- as much of a clause as goes in, written at the front of a row
-module _ (c row : List Entry) (n : ℕ) (is : n ≡ min (length c) (length row)) where
-  front_by : (n < length c) ⊎ (length c ≤ n) → take n c ≡ take (length row) c
-  front_by (inl h) = ap (λ k. take k c) (omega arith)
-  front_by (inr h) = take_all n c h ∙ sym (take_all (length row) c (omega arith))
-
-  pub copied_front : (part : List Entry) (m : ℕ) → m ≡ n → part ≡ take m c → part ++ drop m row ≡ over (take (length row) c) row
-  copied_front part m e p =
-      let front : part ≡ take (length row) c = p ∙ ap (λ k. take k c) e ∙ front_by (cases_lt n (length c)) in
-      let long : m ≡ length (take (length row) c) = let l = length-take (length row) c in omega arith in
-      ap (λ l. l ++ drop m row) front ∙ ap (λ k. take (length row) c ++ drop k row) long
