@@ -1,12 +1,12 @@
 -- Laws of the free list: blocks that are taken from it and put on it.
-use Rattle.std.proofs.Common.{◌≡◌, ℕ, ◌+◌, ◌-◌, ◌<◌, ◌≤◌, List, [], ◌∷◌, ◌++◌, length, get_or, set, vec_capacity, sym, ap, ◌∙◌, add-one, inl, inr, arith}
+use Rattle.std.proofs.Common.{◌≡◌, ℕ, ◌+◌, ◌-◌, ◌<◌, ◌≤◌, List, [], ◌∷◌, ◌++◌, length, get_or, set, vec_capacity, sym, ap, ◌∙◌, add-one, arith}
 use Rattle.std.proofs.lemmas.List.{get_or-set_other, get_or-set_same, get_or_append_left}
-use Rattle.std.proofs.lemmas.Bool.{cases_eq}
+use Rattle.std.proofs.lemmas.Bool.Decides.{nat_tests}
 use Rattle.linked.specs.declared.blocks.Block.{Block}
 use Rattle.linked.specs.declared.pool.Pool.{Pool}
 use Rattle.linked.specs.Chains.{no_block, chain, times, one_below}
 use Rattle.linked.specs.Moves.{blocks_of, touched, block_at, spares, Taken, Returned}
-use Rattle.linked.proofs.ChainLaws.{times_first, times_other, below_yes, below_one, below_from, below_more, chain_first, chain_written}
+use Rattle.linked.proofs.ChainLaws.{times_first, below_yes, below_one, below_from, below_more, chain_first, chain_written}
 
 -- the first block of the free list is taken, and written
 module _ (blocks : List Block) (n free spare next : ℕ) (some : 0 < spare) (at : next ≡ (get_or blocks free no_block).next) (once : (b : ℕ) → times b (chain blocks spare free) ≤ one_below n b) where
@@ -125,17 +125,7 @@ module _ (blocks : List Block) (n free spare place : ℕ) (x : Block) (below : p
       ∙ ap (λ l. place ∷ l) same)
 
   pub put_once : ((b : ℕ) → times b (chain blocks spare free) ≤ one_below n b) → (b : ℕ) → times b (chain (set blocks place x) (spare + 1) place) ≤ one_below n b
-  put_once once b =
-      let is = ap (times b) put_more in
-      let low = once b in
-      elim (cases_eq b place) [
-        | inl e ↦
-            (let one : times b (place ∷ chain blocks spare free) ≡ times place (place ∷ chain blocks spare free) = ap (λ k. times k (place ∷ chain blocks spare free)) e in
-            let first = times_first place (chain blocks spare free) in
-            let yes = below_yes n b (omega arith) in
-            omega arith)
-        | inr ne ↦ (let other = times_other b place (chain blocks spare free) ne in omega arith)
-      ]
+  put_once once b = let is = ap (times b) put_more in let low = once b in grind (arith, nat_tests)
 
 module _ (p q : Pool) (place : ℕ) (x : Block) (below : place < touched p) (apart : times place (spares p) ≡ 0) (len : touched p ≡ length (blocks_of p)) (items : blocks_of q ≡ set (blocks_of p) place x) (next : x.next ≡ p.free) (long : touched q ≡ touched p) (cap : vec_capacity q.blocks ≡ vec_capacity p.blocks) (free : q.free ≡ place) (spare : q.spare ≡ p.spare + 1) where
   put_kept : (b : ℕ) → times b (place ∷ []) ≡ 0 → block_at q b ≡ block_at p b

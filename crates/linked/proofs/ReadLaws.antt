@@ -1,14 +1,13 @@
 -- What is read along the chain of a clause.
-use Rattle.std.proofs.Common.{◌≡◌, ℕ, zero, suc, ◌+◌, ◌-◌, ◌*◌, ◌/◌, ◌%◌, ◌<◌, ◌≤◌, List, [], ◌∷◌, ◌++◌, length, get_or, take, drop, sym, refl, ap, ◌∙◌, append_assoc, arith}
-use Rattle.std.proofs.lemmas.List.{get_or-take, get_or-drop, drop-drop, drop-take, take-take, take-append-le, take_at, drop_at, length-append, length-take-le}
-use Rattle.std.proofs.Math.Seq.{take-add}
+use Rattle.std.proofs.Common.{◌≡◌, ℕ, zero, suc, ◌+◌, ◌-◌, ◌*◌, ◌/◌, ◌%◌, ◌<◌, ◌≤◌, List, [], ◌∷◌, ◌++◌, length, get_or, take, drop, set, sym, refl, ap, ◌∙◌, append_assoc, arith}
+use Rattle.std.proofs.lemmas.List.{get_or-take, get_or-drop, drop-drop, take_more, drop_more, set_at, length-append, length-take, length-take-le}
 use Rattle.clauses.specs.declared.entry.Entry.{Entry}
 use Rattle.engine.specs.Shelves.{no_entry}
 use Rattle.linked.specs.declared.blocks.Block.{Block}
 use Rattle.linked.specs.declared.blocks.Chain.{Chain}
 use Rattle.linked.specs.declared.pool.Pool.{Pool}
 use Rattle.linked.specs.Moves.{blocks_of, touched, block_at, Within}
-use Rattle.linked.specs.Chains.{blocks_for, no_block, first_four, four, chain, held, places, clause_of, times}
+use Rattle.linked.specs.Chains.{blocks_for, no_block, four, chain, held, places, clause_of, times}
 use Rattle.linked.proofs.ChainLaws.{times_first, below_from, chain_first}
 
 length_held : (blocks : List Block) (m head : ℕ) → length (held blocks m head) ≡ 4 * m
@@ -56,20 +55,20 @@ module _ (p : Pool) (r : Chain) (k place : ℕ) (is : Reading p r k place) (more
       is.entries ∙ ap (λ n. held (blocks_of p) n place) e
 
   -- its link leads on
-  pub reading_next : (next : ℕ) → next ≡ (block_at p place).next → Reading p r (k + 1) next
-  reading_next next at =
-      let fewer : left - 1 ≡ blocks_for r.length - (k + 1) = omega arith in
-      let on : 4 * (k + 1) ≡ 4 * k + 4 = omega arith in
+  pub reading_next : (n next : ℕ) → n ≡ k + 1 → next ≡ (block_at p place).next → Reading p r n next
+  reading_next n next e at =
+      let fewer : left - 1 ≡ blocks_for r.length - n = omega arith in
+      let on : 4 * n ≡ 4 * k + 4 = omega arith in
       record {
         entries =
             ap (λ i. drop i (held (blocks_of p) (blocks_for r.length) r.head)) on
             ∙ sym (drop-drop 4 (4 * k) (held (blocks_of p) (blocks_for r.length) r.head))
             ∙ ap (drop 4) reading_block
-            ∙ ap (λ n. held (blocks_of p) n (block_at p place).next) fewer
-            ∙ ap (held (blocks_of p) (blocks_for r.length - (k + 1))) (sym at);
+            ∙ ap (λ m. held (blocks_of p) m (block_at p place).next) fewer
+            ∙ ap (held (blocks_of p) (blocks_for r.length - n)) (sym at);
         among = λ b.
             let first = ap (times b) (chain_first (blocks_of p) left place (omega arith)) in
-            let rest : times b (chain (blocks_of p) (blocks_for r.length - (k + 1)) next) ≡ times b (chain (blocks_of p) (left - 1) (block_at p place).next) = cc in
+            let rest : times b (chain (blocks_of p) (blocks_for r.length - n) next) ≡ times b (chain (blocks_of p) (left - 1) (block_at p place).next) = cc in
             let among = is.among b in
             omega arith;
       }
@@ -95,46 +94,12 @@ read_entry p r i k place is e h =
     ∙ ap (λ l. get_or l (i % 4) no_entry) (reading_block p r k place is (omega arith))
     ∙ four_at x.entries later (i % 4) (omega arith))
 
--- as many of a block's entries as are wanted
-four_take : (j : ℕ) (c : List Entry) → j ≤ 4 → j ≤ length c → take j (first_four c) ≡ take j c
-four_take zero c h g = refl
-four_take (suc j) [] h g = absurd (omega arith)
-four_take (suc zero) (a ∷ c) h g = refl
-four_take (suc (suc j)) (a ∷ []) h g = absurd (omega arith)
-four_take (suc (suc zero)) (a ∷ b ∷ c) h g = refl
-four_take (suc (suc (suc j))) (a ∷ b ∷ []) h g = absurd (omega arith)
-four_take (suc (suc (suc zero))) (a ∷ b ∷ d ∷ c) h g = refl
-four_take (suc (suc (suc (suc j)))) (a ∷ b ∷ d ∷ []) h g = absurd (omega arith)
-four_take (suc (suc (suc (suc zero)))) (a ∷ b ∷ d ∷ e ∷ c) h g = refl
-four_take (suc (suc (suc (suc (suc j))))) c h g = absurd (omega arith)
-
--- the entries of a clause that the block after k links has, up to the m-th
-pub read_block : (p : Pool) (r : Chain) (k m place : ℕ) → Reading p r k place → 4 * k ≤ m → m ≤ r.length → 4 * k < r.length → m ≤ 4 * k + 4 → m - 4 * k ≤ length (block_at p place).entries → take (m - 4 * k) (block_at p place).entries ≡ take (m - 4 * k) (drop (4 * k) (clause_of (blocks_of p) r))
-read_block p r k m place is low high more short long =
-    let all = held (blocks_of p) (blocks_for r.length) r.head in
-    let x = block_at p place in
-    let j = m - 4 * k in
-    let later = held (blocks_of p) (blocks_for r.length - k - 1) x.next in
-    let split : r.length ≡ 4 * k + (r.length - 4 * k) = omega arith in
-    let inner : drop (4 * k) (clause_of (blocks_of p) r) ≡ take (r.length - 4 * k) (drop (4 * k) all) =
-    ap (λ n. drop (4 * k) (take n all)) split ∙ drop-take (4 * k) (r.length - 4 * k) all in
-    sym
-    (ap (take j) inner
-    ∙ take-take j (r.length - 4 * k) (drop (4 * k) all) (omega arith)
-    ∙ ap (take j) (reading_block p r k place is more)
-    ∙ take-append-le j (four x) later (omega arith)
-    ∙ four_take j x.entries (omega arith) long)
-
--- a part of a list is written behind what was written of it at the front of a row
-pub copy_more : (c was row part : List Entry) (i m : ℕ) → i ≤ m → m ≤ length c → m ≤ length was → row ≡ take i c ++ drop i was → part ≡ take (m - i) (drop i c) → take i row ++ (part ++ drop (m - i) (drop i row)) ≡ take m c ++ drop m was
-copy_more c was row part i m low short long is written =
-    let on : i + (m - i) ≡ m = omega arith in
-    let n : length (take i c) ≡ i = length-take-le i c (omega arith) in
-    let front : take i row ≡ take i c = ap (take i) is ∙ take_at (take i c) (drop i was) i n in
-    let rest : drop i row ≡ drop i was = ap (drop i) is ∙ drop_at (take i c) (drop i was) i n in
-    let later : drop (m - i) (drop i row) ≡ drop m was = ap (drop (m - i)) rest ∙ drop-drop (m - i) i was ∙ ap (λ k. drop k was) on in
-    ap (λ l. l ++ (part ++ drop (m - i) (drop i row))) front
-    ∙ ap (λ l. take i c ++ (l ++ drop (m - i) (drop i row))) written
-    ∙ ap (λ l. take i c ++ (take (m - i) (drop i c) ++ l)) later
-    ∙ sym (append_assoc (take i c) (take (m - i) (drop i c)) (drop m was))
-    ∙ ap (λ l. l ++ drop m was) (sym (take-add i (m - i) c) ∙ ap (λ k. take k c) on)
+-- one entry more of a list is written to the front of a row
+pub copy_more : (c row : List Entry) (k : ℕ) (x : Entry) → k < length c → k < length row → x ≡ get_or c k no_entry → set (take k c ++ drop k row) k x ≡ take (k + 1) c ++ drop (k + 1) row
+copy_more c row k x h g e =
+    let long = length-take k c in
+    ap (λ l. set (take k c ++ l) k x) (drop_more row k no_entry g)
+    ∙ set_at (take k c) (get_or row k no_entry) (drop (k + 1) row) x k (omega arith)
+    ∙ ap (λ y. take k c ++ y ∷ drop (k + 1) row) e
+    ∙ sym (append_assoc (take k c) (get_or c k no_entry ∷ []) (drop (k + 1) row))
+    ∙ ap (λ l. l ++ drop (k + 1) row) (sym (take_more c k no_entry h))

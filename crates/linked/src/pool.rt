@@ -134,11 +134,13 @@ impl Pool {
     {
         let n = (clause.length as usize).min(row.len());
         let mut place = clause.head;
-        for k in 0..n.div_ceil(4) {
+        // Entry by entry: clauses are short, and `copy_from_slice` for each block is slower.
+        for (k, entry) in row[..n].iter_mut().enumerate() {
             let block = self.block(place);
-            let part = &mut row[4 * k..n.min(4 * k + 4)];
-            part.copy_from_slice(&block.entries[..part.len()]);
-            place = block.next;
+            *entry = block.entries[k % 4];
+            if k % 4 == 3 {
+                place = block.next;
+            }
         }
         n
     }

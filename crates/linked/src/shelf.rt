@@ -59,7 +59,8 @@ impl LinkedShelf {
         }
     }
 
-    // Where a clause is kept; a chain with no entries where there is no such clause.
+    // Where a clause is kept; a chain with no entries where there is no such clause. Its blocks are blocks of the pool,
+    // which the two that read them, `entry` and `copy` of the pool, ask for.
     fn find(&self, number: u32) -> Chain
         ensures is { clause_of (blocks_of self.now.pool) result ≡ clause_at (clauses_of (blocks_of self.now.pool) self.now.index.items) number }
         ensures within { Within self.now.pool result }

@@ -1,4 +1,4 @@
-use Rattle.std.proofs.Common.{get_or, ap, ◌∙◌, ◌%◌, arith}
+use Rattle.std.proofs.Common.{◌+◌, get_or, refl, ap, ◌∙◌, ◌%◌, arith}
 use Rattle.linked.specs.declared.blocks.Block.{Block}
 use Rattle.engine.specs.Shelves.{no_entry}
 use Rattle.linked.proofs.ReadLaws.{reading_below, reading_next, read_entry}
@@ -9,7 +9,7 @@ block-requires c = reading_below c.args.self.now c.args.clause c.loop.counter c.
 
 pub loop-preserved : goal.loop-preserved
 loop-preserved c =
-    reading_next c.args.self.now c.args.clause c.loop.counter c.loop.place c.loop.invariant (omega arith) c.block.result.now.next (ap (λ (x : Block). x.next) c.block.ensures)
+    reading_next c.args.self.now c.args.clause c.loop.counter c.loop.place c.loop.invariant (omega arith) (c.loop.counter + 1) c.block.result.now.next refl (ap (λ (x : Block). x.next) c.block.ensures)
 
 pub block-requires-2 : goal.block-requires-2
 block-requires-2 c = reading_below c.args.self.now c.args.clause c.loop.counter c.loop.place c.loop.invariant (omega arith) c.requires.within
