@@ -1,6 +1,7 @@
 -- A clause that is kept block by block, the last block first.
-use Rattle.std.proofs.Common.{◌≡◌, ℕ, suc, ◌+◌, ◌-◌, ◌*◌, List, [], ◌∷◌, ◌++◌, length, take, drop, sym, refl, ap, ◌∙◌, subst, arith}
-use Rattle.std.proofs.lemmas.List.{length-drop, drop-drop, drop_all}
+use Rattle.std.proofs.Common.{◌≡◌, ℕ, suc, ◌+◌, ◌-◌, ◌*◌, List, [], ◌∷◌, ◌++◌, length, min, take, drop, sym, refl, ap, ◌∙◌, subst, inl, inr, arith}
+use Rattle.std.proofs.lemmas.List.{length-append, length-drop, drop-drop, drop-take, drop_all, drop_at, take-take, take_all, take_at}
+use Rattle.std.proofs.lemmas.Bool.{cases_lt}
 use Rattle.clauses.specs.declared.entry.Entry.{Entry}
 use Rattle.linked.specs.declared.blocks.Block.{Block}
 use Rattle.linked.specs.declared.pool.Pool.{Pool}
@@ -27,6 +28,33 @@ front_more c t i n e h =
     let m : n ≡ length d = omega arith in
     let rest : take (length d - 4) t ≡ drop 4 d = ap (λ k. take (k - 4) t) (sym m) ∙ h ∙ sym (drop-drop 4 i c) in
     ap (λ k. take k (first_four d ++ t)) m ∙ four_front d t rest
+
+first_of_four : (c : List Entry) → first_four (take 4 c) ≡ first_four c
+first_of_four [] = refl
+first_of_four (a ∷ []) = refl
+first_of_four (a ∷ b ∷ []) = refl
+first_of_four (a ∷ b ∷ e ∷ []) = refl
+first_of_four (a ∷ b ∷ e ∷ f ∷ c) = refl
+
+-- a chunk x at the end of the front s of a list, and what is left before it
+module _ (c s t x : List Entry) (front : s ≡ take (length s) c) (cut : s ≡ t ++ x) where
+  pub chunk_front : t ≡ take (length t) c
+  chunk_front =
+      let long = ap length cut in
+      let both = length-append t x in
+      sym (take_at t x (length t) refl) ∙ ap (take (length t)) (sym cut ∙ front) ∙ take-take (length t) (length s) c (omega arith)
+
+  pub chunk_four : (left : ℕ) → length t ≡ 4 * left → length s ≡ min (length c) (4 * left + 4) → first_four x ≡ first_four (drop (4 * left) c)
+  chunk_four left e n =
+      let whole : take (length s) c ≡ take (4 * left + 4) c = elim (cases_lt (length c) (4 * left + 4)) [
+        | inl h ↦ take_all (length s) c (omega arith) ∙ sym (take_all (4 * left + 4) c (omega arith))
+        | inr h ↦ ap (λ k. take k c) (omega arith)
+      ] in
+      ap first_four
+      (sym (drop_at t x (4 * left) e)
+      ∙ ap (drop (4 * left)) (sym cut ∙ front ∙ whole)
+      ∙ drop-take (4 * left) 4 c)
+      ∙ first_of_four (drop (4 * left) c)
 
 taken_none : (p : Pool) → Taken [] p p
 taken_none p = record { kept = λ b h z. refl; moved = λ b. omega arith; size = omega arith; room = refl }

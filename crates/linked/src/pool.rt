@@ -78,12 +78,14 @@ impl Pool {
         ensures long { result.length ≡ length clause.now }
         ensures taken { Taken (places (blocks_of self.new) result) self.old self.new }
     {
-        let length = clause.len() as u32;
         let mut head = 0;
-        for i in (0..blocks_for(length)).rev() {
-            head = self.store(block_from(&clause[4 * i..], head));
+        for part in clause.chunks(4).rev() {
+            head = self.store(block_from(part, head));
         }
-        Chain { head, length }
+        Chain {
+            head,
+            length: clause.len() as u32,
+        }
     }
 
     // Puts a block on the free list; answers the place of the block that followed it in its chain.
