@@ -1,8 +1,7 @@
 -- The premise of a clause under a word of values: when there is one, and what it then has.
-use Rattle.std.proofs.Common.{◌≡◌, ℕ, ◌≤◌, Bool, true, false, cond, ◌&&◌, leb, List, Ok, Err, Result, sym, refl, ap, ◌∙◌}
+use Rattle.std.proofs.Common.{◌≡◌, ℕ, ◌≤◌, Bool, true, false, cond, ◌&&◌, leb, List, Ok, Err, Result, sym, refl}
 use Rattle.std.proofs.lemmas.Bool.{and_parts, leb-true}
 use Rattle.base.specs.declared.values.ValueWord.{ValueWord}
-use Rattle.formula.specs.declared.tables.Literal.{Literal}
 use Rattle.clauses.specs.declared.entry.Entry.{Entry}
 use Rattle.spelling.proofs.ProperWords.{ok_same, no_ok}
 use Rattle.models.specs.HeldTables.{RowsOfFormula, clause_of}
@@ -35,10 +34,3 @@ claimed t j values c e =
       no_universal = tests.1;
       entries = tests.2;
     }
-
--- the premise, from what the tests answer of the clause's literals
-pub claim_is : (t : RowsOfFormula) (j : ℕ) (values : ValueWord) (ls : List Literal) {named true_there : Bool} → named ≡ is_named t j values → true_there ≡ some_universal_true t.variables values ls → ls ≡ clause_of t j → clause_instance t j values ≡ claim_by named true_there (instance t.variables values ls)
-claim_is t j values ls {named} {true_there} n u e =
-    sym (ap (λ (b : Bool). claim_by b true_there (instance t.variables values ls)) n
-    ∙ ap (λ (b : Bool). claim_by (is_named t j values) b (instance t.variables values ls)) u
-    ∙ ap (λ (c : List Literal). claim_by (is_named t j values) (some_universal_true t.variables values c) (instance t.variables values c)) e)

@@ -1,17 +1,14 @@
 -- Where opening accepts, each output reads only inputs that its existential may depend on.
-use Rattle.std.proofs.Common.{◌≡◌, ℕ, ◌+◌, ◌-◌, ◌*◌, ◌/◌, ◌^◌, ◌<◌, ◌≤◌, Bool, true, false, cond, not, ◌&&◌, eqb, List, [], ◌∷◌, length, get_or, IfOk, Ok, Err, Result, sym, refl, ap, ◌∙◌, subst, arith}
-use Rattle.std.specs.List.{AllByRecursion}
+use Rattle.std.proofs.Common.{◌≡◌, ℕ, ◌+◌, ◌-◌, ◌*◌, ◌/◌, ◌^◌, ◌<◌, ◌≤◌, Bool, true, false, cond, not, ◌&&◌, eqb, List, [], ◌∷◌, filter_map, min, length, get_or, IfOk, Some, None, Option, Ok, Err, Result, sym, refl, ap, ◌∙◌, subst, arith}
+use Rattle.std.specs.List.{AllByRecursion, cons_option, reduce}
 use Rattle.std.proofs.ByRecursion.{All-get_or}
 use Rattle.std.proofs.lemmas.List.{get_or-take}
 use Rattle.std.proofs.lemmas.Result.{IfOk-at_ok}
 use Rattle.std.proofs.lemmas.Bool.{and_from, and_parts, cond_both, eqb-true, le-leb}
-use Rattle.std.proofs.lemmas.Bool.Decides.{nat_tests}
 use Rattle.base.specs.declared.values.ValueWord.{ValueWord}
 use Rattle.base.specs.Causes.{Refusal}
 use Rattle.base.specs.Words.{has_bit, within_word}
 use Rattle.base.proofs.WordLaws.{within_bound, within_yes}
-use Rattle.formula.specs.declared.tables.Kind.{Kind}
-use Rattle.formula.specs.declared.tables.Kind.TheVariants as kind
 use Rattle.formula.specs.declared.tables.Variable.{Variable}
 use Rattle.formula.specs.Groups.{no_variable}
 use Rattle.reach.specs.Reach.{fills, Leads}
@@ -19,7 +16,7 @@ use Rattle.spelling.specs.Dqbf.{Dqbf, existentials_of, record_of}
 use Rattle.spelling.specs.CircuitGrammar.{wires_of}
 use Rattle.audit.specs.FormulaAudit.{head_lawful, variables_lawful, clauses_lawful}
 use Rattle.audit.proofs.FormulaBounds.{variables_bound}
-use Rattle.audit.proofs.FormulaOwners as owners
+use Rattle.audit.proofs.FormulaOwners.{is_existential}
 use Rattle.audit.proofs.FormulaPlaces.{existentials_all, place_existential}
 use Rattle.audit.proofs.FormulaVariables.{decides_variables}
 use Rattle.models.specs.CircuitValues.{output_at, existential_at, ReadsAllowed}
@@ -27,7 +24,7 @@ use Rattle.models.specs.HeldTables.{RowsOfFormula, RowsOfCircuit, lawful_formula
 use Rattle.models.proofs.CircuitRows.{lawful_rows}
 use Rattle.models.proofs.GateLaws.{ordered_at}
 use Rattle.gates.specs.CircuitWorlds.{OpensRight}
-use Rattle.gates.specs.Wiring.{output_reach, lower, is_existential, leaving, lowest_leaving, gate_reaches, truth_opening}
+use Rattle.gates.specs.Wiring.{output_reach, leaving, lowest_leaving, gate_reaches, reach_told, truth_opening}
 use Rattle.gates.proofs.ReachTables.{path_reach}
 
 -- What an accepted opening says: lawful tables, equal counts, and no output that leaves its dependencies.
@@ -36,7 +33,7 @@ pub record Opened (t : RowsOfFormula) (c : RowsOfCircuit) : Type 0 where
   pub circuit : lawful_circuit c ≡ true
   pub inputs : c.head.inputs ≡ t.head.universals
   pub outputs : c.head.outputs ≡ t.head.existentials
-  pub none : lowest_leaving c (gate_reaches c) t.variables ≡ 0
+  pub none : lowest_leaving c (gate_reaches c) t.variables ≡ None
 
 -- it says so wherever it answers Ok
 pub opened : (t : RowsOfFormula) (c : RowsOfCircuit) → truth_opening t c ≡ Ok tt → Opened t c
@@ -44,7 +41,7 @@ opened t c e =
     IfOk-at_ok (λ u. Opened t c) e
     (cond_both (lawful_formula t && lawful_circuit c) _ _ (λ m. IfOk m (λ u. Opened t c))
     (λ a. cond_both (eqb c.head.inputs t.head.universals && eqb c.head.outputs t.head.existentials) _ _ (λ m. IfOk m (λ u. Opened t c))
-    (λ b. cond_both (eqb (lowest_leaving c (gate_reaches c) t.variables) 0) _ _ (λ m. IfOk m (λ u. Opened t c))
+    (λ b. at_lowest (lowest_leaving c (gate_reaches c) t.variables)
     (λ z.
     let p = and_parts (lawful_formula t) (lawful_circuit c) a in
     let q = and_parts (eqb c.head.inputs t.head.universals) (eqb c.head.outputs t.head.existentials) b in
@@ -53,37 +50,42 @@ opened t c e =
       circuit = p.1;
       inputs = eqb-true c.head.inputs t.head.universals q.0;
       outputs = eqb-true c.head.outputs t.head.existentials q.1;
-      none = eqb-true (lowest_leaving c (gate_reaches c) t.variables) 0 z;
-    })
-    (λ z. tt))
+      none = z;
+    }))
     (λ b. tt))
     (λ a. tt))
+  where
+    at_lowest : (o : Option ℕ) → (o ≡ None → Opened t c) → IfOk (reach_told o) (λ u. Opened t c)
+    at_lowest None f = f refl
+    at_lowest (Some k) f = tt
 
 -- no existential's output leaves its dependencies
-lower_zero : (j k : ℕ) → lower j k ≡ 0 → (j ≡ 0) × (k ≡ 0)
-lower_zero j k e = (grind (arith, nat_tests), grind (arith, nat_tests))
+none_first : {X : Type 0} (f : X → X → X) (xs : List X) → reduce f xs ≡ None → xs ≡ []
+none_first f [] e = refl
+none_first f (x ∷ xs) e = cc
 
-none_leaving : (c : RowsOfCircuit) (reaches : List ValueWord) (xs : List Variable) → lowest_leaving c reaches xs ≡ 0 → AllByRecursion (λ x. leaving c reaches x ≡ 0) xs
-none_leaving c reaches [] e = tt
-none_leaving c reaches (x ∷ xs) e =
-    let p = lower_zero (leaving c reaches x) (lowest_leaving c reaches xs) e in
-    (p.0, none_leaving c reaches xs p.1)
+none_kept : {Y : Type 0} (o : Option Y) (ys : List Y) → cons_option o ys ≡ [] → (o ≡ None) × (ys ≡ [])
+none_kept None ys e = (refl, e)
+none_kept (Some y) ys e = cc
 
-stays : (inside : Bool) (p : ℕ) → 1 ≤ p → cond (not inside) p 0 ≡ 0 → inside ≡ true
-stays true p low e = refl
-stays false p low e = absurd (omega arith)
+none_mapped : {X Y : Type 0} (h : X → Option Y) (xs : List X) → filter_map h xs ≡ [] → AllByRecursion (λ x. h x ≡ None) xs
+none_mapped h [] e = tt
+none_mapped h (x ∷ xs) e =
+    let p = none_kept (h x) (filter_map h xs) e in
+    (p.0, none_mapped h xs p.1)
 
-same_test : (k : Kind) → is_existential k ≡ owners.is_existential k
-same_test kind.Undeclared = refl
-same_test kind.Universal = refl
-same_test kind.Existential = refl
+none_leaving : (c : RowsOfCircuit) (reaches : List ValueWord) (xs : List Variable) → lowest_leaving c reaches xs ≡ None → AllByRecursion (λ x. leaving c reaches x ≡ None) xs
+none_leaving c reaches xs e = none_mapped (leaving c reaches) xs (none_first min (filter_map (leaving c reaches) xs) e)
 
-not_leaving : (c : RowsOfCircuit) (reaches : List ValueWord) (x : Variable) (k : ℕ) → leaving c reaches x ≡ 0 → owners.is_existential x.kind ≡ true → x.position ≡ k → 1 ≤ k → within_word (output_reach c reaches k) x.dependencies ≡ true
-not_leaving c reaches x k e is at low =
-    let inside = within_word (output_reach c reaches x.position) x.dependencies in
+stays : (existential inside : Bool) (p : ℕ) → existential ≡ true → cond (existential && not inside) (Some p) None ≡ None → inside ≡ true
+stays true true p is e = refl
+stays true false p is e = cc
+stays false inside p is e = cc
+
+not_leaving : (c : RowsOfCircuit) (reaches : List ValueWord) (x : Variable) (k : ℕ) → leaving c reaches x ≡ None → is_existential x.kind ≡ true → x.position ≡ k → within_word (output_reach c reaches k) x.dependencies ≡ true
+not_leaving c reaches x k e is at =
     ap (λ p. within_word (output_reach c reaches p) x.dependencies) (sym at)
-    ∙ stays inside x.position (omega arith)
-    (ap (λ b. cond (b && not inside) x.position 0) (sym (same_test x.kind ∙ is)) ∙ e)
+    ∙ stays (is_existential x.kind) (within_word (output_reach c reaches x.position) x.dependencies) x.position is e
 
 module _ (t : RowsOfFormula) (c : RowsOfCircuit) (start : Opened t c) (f : Dqbf) (held : Held t f) where
   abbrev existential : ℕ → ℕ
@@ -130,7 +132,7 @@ module _ (t : RowsOfFormula) (c : RowsOfCircuit) (start : Opened t c) (f : Dqbf)
       let inside : k ≤ length (existentials_of f.prefix) = omega arith in
       let (is, at) = place_existential f.prefix (existential k) k held.lawful.once (low, inside, refl) in
       let reach = output_reach c (gate_reaches c) k in
-      let within = not_leaving c (gate_reaches c) x k (record_passes (λ y. leaving c (gate_reaches c) y ≡ 0) (none_leaving c (gate_reaches c) t.variables start.none) k low inside) is at low in
+      let within = not_leaving c (gate_reaches c) x k (record_passes (λ y. leaving c (gate_reaches c) y ≡ None) (none_leaving c (gate_reaches c) t.variables start.none) k low inside) is at in
       let same : output_at (aig_of c) k ≡ get_or c.outputs (k - 1) 0 = get_or-take c.head.outputs c.outputs (k - 1) 0 (omega arith) in
       let bound : output_at (aig_of c) k ≤ 2 * wires_of (aig_of c) + 1 = All-get_or (λ o. o ≤ 2 * wires_of (aig_of c) + 1) (aig_of c).outputs (k - 1) 0 (omega arith) lawful.outputs in
       let full : fills c.head c.gates 60000 ≡ true = and_from _ _ (le-leb c.head.gates (length c.gates) counts.gates_fit) (le-leb c.head.gates 60000 counts.few_gates) in

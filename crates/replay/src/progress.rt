@@ -1,6 +1,6 @@
 // Progress of long work.
 
-// Whoever wants to know how far a replay has come.
+// Whoever wants to know how far a replay has come. A closure would need a `requires` of the call that takes it, a method does not.
 pub trait Progress {
     // So many records of so many bytes were taken.
     fn taken(&mut self, records: usize, bytes: usize);

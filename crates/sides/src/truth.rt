@@ -58,21 +58,19 @@ impl<'a> Side for TruthSide<'a> {
     }
 
     fn is_own(&self, premise: Premise) -> bool {
-        match premise {
-            Premise::Truth { .. } => true,
-            Premise::Falsity { .. } => false,
-        }
+        matches!(premise, Premise::Truth { .. })
     }
 
     fn lay_premise(&self, premise: Premise, row: &mut [Entry]) -> Result<usize, Cause> {
-        match premise {
-            Premise::Truth {
-                class,
-                number,
-                part,
-            } => { lay_wiring(&self.circuit, class, number, part, row) }
-            Premise::Falsity { .. } => Err(Cause::NotThere),
-        }
+        let Premise::Truth {
+            class,
+            number,
+            part,
+        } = premise
+        else {
+            return Err(Cause::NotThere);
+        };
+        lay_wiring(&self.circuit, class, number, part, row)
     }
 
     fn goal_count(&self) -> u32 {

@@ -1,16 +1,11 @@
-use Rattle.std.proofs.lemmas.Result.{IfOk-from_err}
 use Rattle.engine.specs.Means.{rules}
 use Rattle.engine.proofs.HistoryLaws.{all_runs_lawful}
 use Rattle.replay.proofs.ReplayLaws.{replays_made}
 use Rattle.replay.proofs.replay.replay.Goals as goal
 
-pub returns-in_err-examiner : goal.returns-in_err-examiner
-returns-in_err-examiner g c =
-    record {
-      is = IfOk-from_err c.from_residual.result _ c.from_residual.ensures.0;
-      holds = IfOk-from_err c.from_residual.result _ c.from_residual.ensures.0;
-      lawful = all_runs_lawful (rules g.S.Side g.F.Shelf c.args.side c.args.shelf) (g.S.Side.few c.args.side);
-    }
+pub returns-in_err-examiner-clause-lawful : goal.returns-in_err-examiner-clause-lawful
+returns-in_err-examiner-clause-lawful g c =
+    all_runs_lawful (rules g.S.Side g.F.Shelf c.args.side c.args.shelf) (g.S.Side.few c.args.side)
 
 pub returns : goal.returns
 returns g c =
