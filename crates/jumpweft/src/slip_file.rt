@@ -1,20 +1,11 @@
 // The file that a slip is written to.
+use super::failure::{Failure, done};
 use std::{fs, io};
 
-// Writes the slip through a temporary file beside it and a rename, so that no part of a slip is ever seen; answers
-// whether that went well, and standard error says where it did not.
-pub(crate) fn write_slip_file(
-    rt: &HostRuntime,
-    name: &str,
-    slip: [u8; 16],
-) -> Result<bool, io::Error> {
-    match replace_file(rt, name, slip) {
-        Ok(()) => Ok(true),
-        Err(e) => {
-            eprintln!(rt; "jumpweft: {name}: {e}")?;
-            Ok(false)
-        }
-    }
+// Writes the slip through a temporary file beside it and a rename, so that no part of a slip is ever seen; standard
+// error says where it did not go well.
+pub(crate) fn write_slip_file(rt: &HostRuntime, name: &str, slip: [u8; 16]) -> Result<(), Failure> {
+    done(rt, name, replace_file(rt, name, slip))
 }
 
 fn replace_file(rt: &HostRuntime, name: &str, slip: [u8; 16]) -> Result<(), io::Error> {
