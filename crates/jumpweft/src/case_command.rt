@@ -1,10 +1,9 @@
 // `jumpweft true` and `jumpweft false`: the whole task, from the texts and the proof to the slip.
 use super::arguments::Arguments;
-use super::failure::{Failure, accepted, accepted_text, decided};
+use super::failure::{Failure, decided, refused, text_refused};
 use super::number::plain;
 use super::shelf_options::{ShelfKind, ShelfRows};
-use super::show;
-use super::slip_file::write_slip_file;
+use super::slip_file::{print_slip, write_slip_file};
 use super::standard_error::StandardError;
 use super::text::Text;
 use anyhow::{Context, anyhow};
@@ -118,17 +117,17 @@ fn check<F: Shelf + Drop>(
 // Prints how far the task came.
 fn print_outcome(rt: &HostRuntime, case: Case<'_>, outcome: Outcome) -> Result<(), Failure> {
     match outcome {
-        Outcome::FormulaRefused(fault) => accepted_text(rt, "formula", case.formula, Err(fault)),
+        Outcome::FormulaRefused(fault) => text_refused(rt, "formula", case.formula, fault),
         Outcome::CircuitRefused { formula, fault } => {
             println!(rt; "formula {}, {formula}", case.formula)?;
             match case.circuit {
-                Some(circuit) => accepted_text(rt, "circuit", circuit, Err(fault)),
-                None => accepted(rt, Err(fault)),
+                Some(circuit) => text_refused(rt, "circuit", circuit, fault),
+                None => refused(rt, fault),
             }
         }
         Outcome::OpeningRefused { heads, fault } => {
             print_opening(rt, case, heads)?;
-            accepted(rt, Err(fault))
+            refused(rt, fault)
         }
         Outcome::Closed {
             heads,
@@ -180,7 +179,7 @@ fn print_end(
     slip: Slip,
     bytes: [u8; 16],
 ) -> Result<(), Failure> {
-    show::slip_line(rt, bytes)?;
+    print_slip(rt, bytes)?;
     if let Some(name) = file {
         write_slip_file(rt, name, bytes)?;
     }

@@ -1,6 +1,6 @@
 // `jumpweft circuit`: reads a circuit into tables and prints them with the reaches.
 use super::arguments::Arguments;
-use super::failure::{Failure, accepted};
+use super::failure::{Failure, refused};
 use super::text::Text;
 use base::faults::Fault;
 use base::values::ValueWord;
@@ -25,7 +25,9 @@ pub(crate) fn run(rt: &HostRuntime, arguments: &Arguments<'_>) -> Result<(), Fai
         at: arguments.number("--at", 0)?,
     };
     let mut tables = Tables::new(rt.alloc(), arguments)?;
-    let head = accepted(rt, tables.read(text.bytes.as_slice(), &mut place))?;
+    let head = tables
+        .read(text.bytes.as_slice(), &mut place)
+        .or_else(|fault| refused(rt, fault))?;
     let reaches = tables.reaches(rt.alloc(), head)?;
     tables.print(rt, place, head, reaches.as_slice())?;
     Ok(())

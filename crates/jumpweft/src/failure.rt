@@ -32,49 +32,30 @@ impl From<AllocError> for Failure {
     }
 }
 
-// What was done with a file; where that failed, standard error says why.
-pub(crate) fn done<T>(
-    rt: &HostRuntime,
-    file: &str,
-    outcome: Result<T, io::Error>,
-) -> Result<T, Failure> {
-    match outcome {
-        Ok(value) => Ok(value),
-        Err(e) => {
-            eprintln!(rt; "jumpweft: {file}: {e}")?;
-            Err(Failure::Told)
-        }
-    }
+// Prints a refusal.
+pub(crate) fn refused<T>(rt: &HostRuntime, fault: Fault) -> Result<T, Failure> {
+    println!(rt; "{fault}")?;
+    Err(Failure::Told)
 }
 
-// What was read; where it is refused, the refusal is printed.
-pub(crate) fn accepted<T>(rt: &HostRuntime, read: Result<T, Fault>) -> Result<T, Failure> {
-    match read {
-        Ok(value) => Ok(value),
-        Err(fault) => {
-            println!(rt; "{fault}")?;
-            Err(Failure::Told)
-        }
-    }
-}
-
-// The tables of a formula's or a circuit's text; where it is refused, the text and the refusal are printed.
-pub(crate) fn accepted_text<T>(
+// Prints a formula or a circuit whose text is refused, and the refusal.
+pub(crate) fn text_refused<T>(
     rt: &HostRuntime,
     kind: &str,
     text: &Text<'_>,
-    read: Result<T, Fault>,
+    fault: Fault,
 ) -> Result<T, Failure> {
-    match read {
-        Ok(tables) => Ok(tables),
-        Err(fault) => {
-            println!(rt; "{kind} {text}\n{fault}")?;
-            Err(Failure::Told)
-        }
-    }
+    println!(rt; "{kind} {text}\n{fault}")?;
+    Err(Failure::Told)
 }
 
-// Whether the status is 0, by the verdict of a slip, which is printed.
+// Says on standard error what went wrong with a file.
+pub(crate) fn file_failed<T>(rt: &HostRuntime, name: &str, e: io::Error) -> Result<T, Failure> {
+    eprintln!(rt; "jumpweft: {name}: {e}")?;
+    Err(Failure::Told)
+}
+
+// Fails where a slip says neither True nor False.
 pub(crate) fn decided(slip: Slip) -> Result<(), Failure> {
     if slip.is_decided() {
         Ok(())

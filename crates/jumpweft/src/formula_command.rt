@@ -1,6 +1,6 @@
 // `jumpweft formula`: reads a formula into tables and prints them.
 use super::arguments::Arguments;
-use super::failure::{Failure, accepted};
+use super::failure::{Failure, refused};
 use super::text::Text;
 use base::faults::Fault;
 use formula::tables::{Clause, Head, Kind, Literal, Variable};
@@ -24,7 +24,9 @@ pub(crate) fn run(rt: &HostRuntime, arguments: &Arguments<'_>) -> Result<(), Fai
         at: arguments.number("--at", 0)?,
     };
     let mut tables = Tables::new(rt.alloc(), arguments, text.bytes.len())?;
-    let head = accepted(rt, tables.read(text.bytes.as_slice(), &mut place))?;
+    let head = tables
+        .read(text.bytes.as_slice(), &mut place)
+        .or_else(|fault| refused(rt, fault))?;
     tables.print(rt, place, head)?;
     Ok(())
 }

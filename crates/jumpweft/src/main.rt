@@ -13,7 +13,6 @@ mod records_command;
 mod requests;
 mod session_command;
 mod shelf_options;
-mod show;
 mod slip_command;
 mod slip_file;
 mod standard_error;

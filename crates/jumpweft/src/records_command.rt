@@ -16,7 +16,7 @@ fn print_records(rt: &HostRuntime, bytes: &[u8]) -> Result<(), Failure> {
     let mut rest = bytes;
     let mut count = 0usize;
     while !rest.is_empty() {
-        count = count.saturating_add(1);
+        count += 1;
         let (read, behind) = read_record(rest);
         match read {
             Ok(step) => {

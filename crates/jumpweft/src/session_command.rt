@@ -1,9 +1,9 @@
 // `jumpweft session`: one examiner, which answers the calls on standard input.
 use super::arguments::Arguments;
-use super::failure::{Failure, accepted_text};
+use super::failure::{Failure, text_refused};
 use super::requests::{Request, hex_bytes, read_request};
 use super::shelf_options::{ShelfKind, ShelfRows};
-use super::show;
+use super::slip_file::print_slip;
 use super::text::Text;
 use anyhow::bail;
 use engine::examiner::Examiner;
@@ -64,13 +64,15 @@ fn run_truth(
 }
 
 fn read_formula(rt: &HostRuntime, text: &Text<'_>) -> Result<FormulaRows, Failure> {
-    let read = formula_rows(rt.alloc(), text.bytes.as_slice())?;
-    accepted_text(rt, "formula", text, read)
+    formula_rows(rt.alloc(), text.bytes.as_slice())?.or_else(|fault| text_refused(
+        rt, "formula", text, fault,
+    ))
 }
 
 fn read_circuit(rt: &HostRuntime, text: &Text<'_>) -> Result<CircuitRows, Failure> {
-    let read = circuit_rows(rt.alloc(), text.bytes.as_slice())?;
-    accepted_text(rt, "circuit", text, read)
+    circuit_rows(rt.alloc(), text.bytes.as_slice())?.or_else(|fault| text_refused(
+        rt, "circuit", text, fault,
+    ))
 }
 
 // Makes the examiner on the shelf that the options name.
@@ -92,7 +94,7 @@ fn answer_all<S: Side + Drop, F: Shelf + Drop>(
     answer_lines(rt, &mut examiner)?;
     if let Some(number) = examiner.open_case() {
         let slip = examiner.close(Ticket::of(number));
-        show::slip_line(rt, write_slip(slip))?;
+        print_slip(rt, write_slip(slip))?;
     }
     Ok(())
 }
@@ -154,7 +156,7 @@ fn print_answer(rt: &HostRuntime, answer: Answer) -> Result<(), io::Error> {
         Answer::Took { number: 0, used } => println!(rt; "settled, {used} bytes"),
         Answer::Took { number, used } => println!(rt; "clause {number}, {used} bytes"),
         Answer::Refused(fault) => println!(rt; "{fault}"),
-        Answer::Ended(slip) => show::slip_line(rt, write_slip(slip)),
+        Answer::Ended(slip) => print_slip(rt, write_slip(slip)),
     }
 }
 

@@ -1,5 +1,5 @@
 // The files that a command is run on.
-use super::failure::{Failure, done};
+use super::failure::{Failure, file_failed};
 use std::fs::File;
 use std::io::Read;
 use std::{fmt, fs, io};
@@ -14,7 +14,7 @@ pub(crate) struct Text<'a> {
 impl<'a> Text<'a> {
     // Reads the file; where it cannot be read, standard error says why.
     pub(crate) fn read(rt: &HostRuntime, name: &'a str) -> Result<Text<'a>, Failure> {
-        let bytes = done(rt, name, read_bytes(rt, name))?;
+        let bytes = read_bytes(rt, name).or_else(|e| file_failed(rt, name, e))?;
         Ok(Text { name, bytes })
     }
 }
