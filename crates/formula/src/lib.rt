@@ -1,5 +1,6 @@
 // Formulas: their tables and the reader of formula texts.
 #![tactic(auto)]
 
+pub mod print;
 pub mod read;
 pub mod tables;
