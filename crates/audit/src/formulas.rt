@@ -93,8 +93,8 @@ fn lawful_variables(head: Head, vars: &[Variable]) -> bool
             return false;
         }
     }
-    has_owners(&owners.universals[1..head.universals as usize + 1])
-        && has_owners(&owners.existentials[1..head.existentials as usize + 1])
+    has_owners(&owners.universals[1..=head.universals as usize])
+        && has_owners(&owners.existentials[1..=head.existentials as usize])
         && all_are(free, &Variable::default())
 }
 
