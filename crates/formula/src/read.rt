@@ -18,7 +18,7 @@ pub mod clauses;
 pub mod groups;
 mod marks;
 
-// The record of v, where v is one of these variables.
+// The record of v, where v is one of these variables, which are numbered from 1.
 pub(crate) fn variable(vars: &[Variable], v: u32) -> Option<Variable>
     ensures is { result ≡ variable_in vars.now v }
     ensures within { OnSome result ((0 < v) × (v ≤ length vars.now)) }
@@ -48,7 +48,7 @@ fn read_count(
     Ok(count)
 }
 
-// V and C.
+// V and C, behind the words `p` and `cnf`.
 fn read_header(
     text: &[u8],
     place: &mut Place,
