@@ -86,6 +86,7 @@ fn read_header(
 }
 
 // Input i is the literal 2i.
+#[tactic(auto, using(crate::proofs::CountLaws::one_left))]
 fn read_inputs(text: &[u8], place: &mut Place, inputs: u32) -> Result<(), Fault>
     requires { inputs ≤ MAX_INPUTS }
     ensures { got result (words_from text.now place.new.at) place.new.at ≡ inputs_from inputs 1 (words_from text.now place.old.at) place.old.at (length text.now) }
