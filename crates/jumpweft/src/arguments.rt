@@ -21,14 +21,12 @@ impl<'a> Arguments<'a> {
         };
         let mut files = Vec::new(alloc);
         let mut options = Vec::new(alloc);
+        // The option whose value comes next.
         let mut due = None;
         for word in words.iter().skip(2) {
             let word = word.as_str();
-            match due {
-                Some(option) => {
-                    options.push((option, word))?;
-                    due = None;
-                }
+            match due.take() {
+                Some(option) => options.push((option, word))?,
                 None if word.starts_with("--") => due = Some(word),
                 None => files.push(word)?,
             }

@@ -64,15 +64,13 @@ fn run_truth(
 }
 
 fn read_formula(rt: &HostRuntime, text: &Text<'_>) -> Result<FormulaRows, Failure> {
-    formula_rows(rt.alloc(), text.bytes.as_slice())?.or_else(|fault| text_refused(
-        rt, "formula", text, fault,
-    ))
+    let read = formula_rows(rt.alloc(), text.bytes.as_slice())?;
+    read.or_else(|fault| text_refused(rt, "formula", text, fault))
 }
 
 fn read_circuit(rt: &HostRuntime, text: &Text<'_>) -> Result<CircuitRows, Failure> {
-    circuit_rows(rt.alloc(), text.bytes.as_slice())?.or_else(|fault| text_refused(
-        rt, "circuit", text, fault,
-    ))
+    let read = circuit_rows(rt.alloc(), text.bytes.as_slice())?;
+    read.or_else(|fault| text_refused(rt, "circuit", text, fault))
 }
 
 // Makes the examiner on the shelf that the options name.
