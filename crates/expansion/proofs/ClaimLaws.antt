@@ -1,9 +1,8 @@
 -- The premise of a clause under a word of values: when there is one, and what it then has.
-use Rattle.std.proofs.Common.{◌≡◌, ℕ, ◌≤◌, Bool, true, false, cond, ◌&&◌, leb, List, Ok, Err, Result, sym, refl}
+use Rattle.std.proofs.Common.{◌≡◌, ℕ, ◌≤◌, Bool, true, false, cond, ◌&&◌, leb, List, Ok, Err, Result, refl}
 use Rattle.std.proofs.lemmas.Bool.{and_parts, leb-true}
 use Rattle.base.specs.declared.values.ValueWord.{ValueWord}
 use Rattle.clauses.specs.declared.entry.Entry.{Entry}
-use Rattle.spelling.proofs.ProperWords.{ok_same, no_ok}
 use Rattle.models.specs.HeldTables.{RowsOfFormula, clause_of}
 use Rattle.expansion.specs.Instances.{some_universal_true, instance, is_named, clause_instance}
 
@@ -15,13 +14,13 @@ pub record Claimed (t : RowsOfFormula) (j : ℕ) (values : ValueWord) (c : List 
   pub entries : c ≡ instance t.variables values (clause_of t j)
 
 -- the premise by its two tests: whether it is named, and whether a universal literal is true
-abbrev pub claim_by : Bool → Bool → List Entry → Result (List Entry) ℕ
+abbrev claim_by : Bool → Bool → List Entry → Result (List Entry) ℕ
 claim_by named true_there c = cond named (cond true_there (Err 17) (Ok c)) (Err 16)
 
 claim_tests : (named true_there : Bool) (c' c : List Entry) → claim_by named true_there c' ≡ Ok c → (named ≡ true) × (true_there ≡ false) × (c ≡ c')
-claim_tests true true c' c e = absurd (no_ok c 17 e)
-claim_tests true false c' c e = (refl, refl, sym (ok_same c' c e))
-claim_tests false true_there c' c e = absurd (no_ok c 16 e)
+claim_tests true true c' c e = cc
+claim_tests true false c' c e = (refl, refl, cc)
+claim_tests false true_there c' c e = cc
 
 pub claimed : (t : RowsOfFormula) (j : ℕ) (values : ValueWord) (c : List Entry) → clause_instance t j values ≡ Ok c → Claimed t j values c
 claimed t j values c e =

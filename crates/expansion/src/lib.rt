@@ -79,6 +79,7 @@ impl<'a> Expansion<'a> {
         ensures { row.new ≡ over (instance self.now.formula.now.variables.now self.now.values clause.now) row.old }
     {
         let entries = clause.iter().filter_map(|literal| self.annotate(*literal));
+        // By numbers: what is written through a row's `iter_mut` in a `zip` is not known behind the loop.
         for (i, entry) in entries.enumerate() {
             row[i] = entry;
         }

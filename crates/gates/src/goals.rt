@@ -29,6 +29,7 @@ pub fn copy_goal(formula: &FormulaTables, wires: u32, number: u32, row: &mut [En
 {
     let clause = formula.clause(number);
     let count = clause.len().min(row.len());
+    // By numbers: what is written through a row's `iter_mut` in a `zip` is not known behind the loop.
     for (i, literal) in clause[..count].iter().enumerate() {
         row[i] = goal_entry(formula, wires, *literal);
     }
