@@ -18,7 +18,7 @@ use Rattle.engine.specs.Runs.{Call, opens, steps, takes, closes, opened_state, s
 use Rattle.engine.specs.Histories.{LiteralOf, Filed, Allows, premise, resolve, noted_if, noted_take, noted, history, Derives, nothing, more, settling, Among, here, there, Settles, SettledBy}
 use Rattle.engine.specs.Lawful.{AllRunsLawful}
 use Rattle.engine.proofs.RowLaws.{err_ok, same_ok}
-use Rattle.engine.proofs.Soundness.{none_some, case_both, ok_both, none_settled, lowest_all, unproved_never}
+use Rattle.engine.proofs.Ways.{none_some, case_both, ok_both, none_settled, lowest_all, unproved_never}
 use Rattle.engine.proofs.StepRelations.{Fit, outcome, premise_accepted, resolve_accepted, settle_marks, lawful_steps, lawful_settlings}
 
 -- steps among those of a history
@@ -99,14 +99,15 @@ module _ (r : Rules) (bound : r.goals ≤ 16384) where
   open_at s (step.Settle g c) y e = open_by s.case _ _ y e
 
   -- what an open case holds
-  record Holds (s : State) (done : List Step) : Type 0 where
-    clauses : AllByRecursion Fit s.list
-    derived : Derives r done s.list
-    marks : (g k : ℕ) → Among (step.Settle g k) done → is_settled s g ≡ true
-    settled_by : (g : ℕ) → 1 ≤ g → is_settled s g ≡ true → SettledBy r done s.list g
-    long : length s.settled ≡ 16384
+  pub record Holds (s : State) (done : List Step) : Type 0 where
+    pub accepted : r.opening ≡ Ok tt
+    pub clauses : AllByRecursion Fit s.list
+    pub derived : Derives r done s.list
+    pub marks : (g k : ℕ) → Among (step.Settle g k) done → is_settled s g ≡ true
+    pub settled_by : (g : ℕ) → 1 ≤ g → is_settled s g ≡ true → SettledBy r done s.list g
+    pub long : length s.settled ≡ 16384
 
-  abbrev Stands : State → List Step → Type 0
+  abbrev pub Stands : State → List Step → Type 0
   Stands s done = (k : ℕ) → s.case ≡ Some k → Holds s done
 
   not_settling : {cs : List (List Entry)} {p : Step} {c : List Entry} (g k : ℕ) → Allows r cs p c → step.Settle g k ≡ p → ⊥
@@ -116,6 +117,7 @@ module _ (r : Rules) (bound : r.goals ≤ 16384) where
   pushed_holds : (s : State) (done : List Step) (p : Step) (c : List Entry) (settled : List Bool) (o : Option ℕ) → settled ≡ s.settled → Holds s done → Allows r s.list p c → Fit c → Holds (record { case = o; list = s.list ++ c ∷ []; settled = settled }) (done ++ p ∷ [])
   pushed_holds s done p c settled o same h a fit =
       record {
+        accepted = h.accepted;
         clauses = All-push Fit s.list c h.clauses fit;
         derived = more p h.derived a;
         marks = λ g k m. ap (λ (l : List Bool). get_or l (g - 1) false) same ∙ ⊎_elim (λ b. h.marks g k b) (λ e. absurd (not_settling g k a e)) (among_cases done p m);
@@ -133,6 +135,7 @@ module _ (r : Rules) (bound : r.goals ≤ 16384) where
       let long : length s.settled ≡ 16384 = h.long in
       let inside : g - 1 < length s.settled = omega arith in
       record {
+        accepted = h.accepted;
         clauses = h.clauses;
         derived = settling g c h.derived;
         marks =
@@ -192,6 +195,7 @@ module _ (r : Rules) (bound : r.goals ≤ 16384) where
       ok_both (OpensWell s done) (λ _. h) r.opening _
       (λ u e k ke.
       record {
+        accepted = e;
         clauses = tt;
         derived = nothing;
         marks = λ g i a. absurd (none_among a);
@@ -200,13 +204,13 @@ module _ (r : Rules) (bound : r.goals ≤ 16384) where
       }))
       (λ _ _. h)
 
-  next_stands : (s : State) (done : List Step) (c : Call) → Stands s done → Stands (next r s c) (noted r s done c)
+  pub next_stands : (s : State) (done : List Step) (c : Call) → Stands s done → Stands (next r s c) (noted r s done c)
   next_stands s done (opens n) h = open_stands s done n h
   next_stands s done (steps p) h = step_stands s done p h
   next_stands s done (takes bytes) h = take_stands s done bytes (step_from bytes) refl h
   next_stands s done (closes n) h = cond_both (is_case s n) _ _ (λ (t : State). Stands t done) (λ _ k e. absurd (none_some k e)) (λ _. h)
 
-  run_stands : (s : State) (done : List Step) (cs : List Call) → Stands s done → Stands (run r s cs) (history r s done cs)
+  pub run_stands : (s : State) (done : List Step) (cs : List Call) → Stands s done → Stands (run r s cs) (history r s done cs)
   run_stands s done [] h = h
   run_stands s done (c ∷ cs) h = run_stands (next r s c) (noted r s done c) cs (next_stands s done c h)
 
