@@ -1,8 +1,9 @@
 -- Histories: over every run, what an open case holds was derived since its opening, its steps and settlings are lawful,
 -- and its slip says exactly which goals were settled.
-use Rattle.std.proofs.Common.{◌≡◌, ℕ, zero, suc, ◌+◌, ◌-◌, ◌<◌, ◌≤◌, Bool, true, false, cond, eqb, ◌⊎◌, List, [], ◌∷◌, ◌++◌, length, get_or, set, Some, None, Ok, Err, Option, Result, sym, refl, ap, ◌∙◌, subst, inl, inr, ⊎_elim, arith}
-use Rattle.std.specs.List.{AllByRecursion}
+use Rattle.std.proofs.Common.{◌≡◌, ℕ, zero, suc, ◌+◌, ◌-◌, ◌<◌, ◌≤◌, Bool, true, false, cond, eqb, List, [], ◌∷◌, ◌++◌, length, get_or, set, Some, None, Ok, Err, Option, Result, sym, refl, ap, ◌∙◌, subst, ⊎_elim, arith}
+use Rattle.std.specs.List.{AllByRecursion, Contains}
 use Rattle.std.proofs.ByRecursion.{All-push}
+use Rattle.std.proofs.lemmas.List.Elements.{Contains-append_left, Contains-push, Contains-push_cases}
 use Rattle.std.proofs.lemmas.List.{get_or_append_left, get_or-set_same, get_or-set_other, length-replicate, length-set, length_push}
 use Rattle.std.proofs.lemmas.Bool.{both_ways, false≢true, cond_both, cond-true, cond-false, cases_Bool, cases_eq, eq-eqb}
 use Rattle.base.specs.Causes.{Refusal}
@@ -15,30 +16,11 @@ use Rattle.records.specs.Records.{step_from}
 use Rattle.engine.specs.Shelves.{clause_at}
 use Rattle.engine.specs.Plain.{Rules, State, start, on_ok, on_some, opened, is_settled, step_result, take_result, lowest_open, verdict_slip, ending, is_case, close_slip}
 use Rattle.engine.specs.Runs.{Call, opens, steps, takes, closes, opened_state, stepped_state, next, run}
-use Rattle.engine.specs.Histories.{LiteralOf, Filed, Allows, premise, resolve, noted_if, noted_take, noted, history, Derives, nothing, more, settling, Among, here, there, Settles, SettledBy}
+use Rattle.engine.specs.Histories.{LiteralOf, Filed, Allows, premise, resolve, noted_if, noted_take, noted, history, Derives, nothing, more, settling, Settles, SettledBy}
 use Rattle.engine.specs.Lawful.{AllRunsLawful}
 use Rattle.engine.proofs.RowLaws.{err_ok, same_ok}
-use Rattle.engine.proofs.Soundness.{none_some, case_both, ok_both, none_settled, lowest_all, unproved_never}
+use Rattle.engine.proofs.Ways.{none_some, case_both, ok_both, none_settled, lowest_all, unproved_never}
 use Rattle.engine.proofs.StepRelations.{Fit, outcome, premise_accepted, resolve_accepted, settle_marks, lawful_steps, lawful_settlings}
-
--- steps among those of a history
-none_among : {p : Step} → Among p [] → ⊥
-none_among a = elim a [ ]
-
-among_push : {p : Step} (done : List Step) (q : Step) → Among p done → Among p (done ++ q ∷ [])
-among_push [] q a = absurd (none_among a)
-among_push (d ∷ done) q here = here
-among_push (d ∷ done) q (there a) = there (among_push done q a)
-
-among_last : (done : List Step) (p : Step) → Among p (done ++ p ∷ [])
-among_last [] p = here
-among_last (d ∷ done) p = there (among_last done p)
-
-among_cases : {p : Step} (done : List Step) (q : Step) → Among p (done ++ q ∷ []) → Among p done ⊎ (p ≡ q)
-among_cases [] q here = inr refl
-among_cases [] q (there a) = absurd (none_among a)
-among_cases (d ∷ done) q here = inl here
-among_cases (d ∷ done) q (there a) = ⊎_elim (λ l. inl (there l)) (λ e. inr e) (among_cases done q a)
 
 -- clauses that were filed stay
 filed_push : (cs : List (List Entry)) (c : List Entry) (k : ℕ) → Filed cs k → Filed (cs ++ c ∷ []) k
@@ -99,14 +81,15 @@ module _ (r : Rules) (bound : r.goals ≤ 16384) where
   open_at s (step.Settle g c) y e = open_by s.case _ _ y e
 
   -- what an open case holds
-  record Holds (s : State) (done : List Step) : Type 0 where
-    clauses : AllByRecursion Fit s.list
-    derived : Derives r done s.list
-    marks : (g k : ℕ) → Among (step.Settle g k) done → is_settled s g ≡ true
-    settled_by : (g : ℕ) → 1 ≤ g → is_settled s g ≡ true → SettledBy r done s.list g
-    long : length s.settled ≡ 16384
+  pub record Holds (s : State) (done : List Step) : Type 0 where
+    pub accepted : r.opening ≡ Ok tt
+    pub clauses : AllByRecursion Fit s.list
+    pub derived : Derives r done s.list
+    pub marks : (g k : ℕ) → Contains done (step.Settle g k) → is_settled s g ≡ true
+    pub settled_by : (g : ℕ) → 1 ≤ g → is_settled s g ≡ true → SettledBy r done s.list g
+    pub long : length s.settled ≡ 16384
 
-  abbrev Stands : State → List Step → Type 0
+  abbrev pub Stands : State → List Step → Type 0
   Stands s done = (k : ℕ) → s.case ≡ Some k → Holds s done
 
   not_settling : {cs : List (List Entry)} {p : Step} {c : List Entry} (g k : ℕ) → Allows r cs p c → step.Settle g k ≡ p → ⊥
@@ -116,13 +99,14 @@ module _ (r : Rules) (bound : r.goals ≤ 16384) where
   pushed_holds : (s : State) (done : List Step) (p : Step) (c : List Entry) (settled : List Bool) (o : Option ℕ) → settled ≡ s.settled → Holds s done → Allows r s.list p c → Fit c → Holds (record { case = o; list = s.list ++ c ∷ []; settled = settled }) (done ++ p ∷ [])
   pushed_holds s done p c settled o same h a fit =
       record {
+        accepted = h.accepted;
         clauses = All-push Fit s.list c h.clauses fit;
         derived = more p h.derived a;
-        marks = λ g k m. ap (λ (l : List Bool). get_or l (g - 1) false) same ∙ ⊎_elim (λ b. h.marks g k b) (λ e. absurd (not_settling g k a e)) (among_cases done p m);
+        marks = λ g k m. ap (λ (l : List Bool). get_or l (g - 1) false) same ∙ ⊎_elim (λ b. h.marks g k b) (λ e. absurd (not_settling g k a (sym e))) (Contains-push_cases done p (step.Settle g k) m);
         settled_by =
             λ g pos e.
             let b = h.settled_by g pos (ap (λ (l : List Bool). get_or l (g - 1) false) (sym same) ∙ e) in
-            (b.0, among_push done p b.1, filed_push s.list c b.0 b.2, λ x l. b.3 x (subst (LiteralOf x) (clause_push s.list c b.0 b.2) l));
+            (b.0, Contains-append_left done (p ∷ []) (step.Settle g b.0) b.1, filed_push s.list c b.0 b.2, λ x l. b.3 x (subst (LiteralOf x) (clause_push s.list c b.0 b.2) l));
         long = ap length same ∙ h.long;
       }
 
@@ -133,6 +117,7 @@ module _ (r : Rules) (bound : r.goals ≤ 16384) where
       let long : length s.settled ≡ 16384 = h.long in
       let inside : g - 1 < length s.settled = omega arith in
       record {
+        accepted = h.accepted;
         clauses = h.clauses;
         derived = settling g c h.derived;
         marks =
@@ -141,15 +126,15 @@ module _ (r : Rules) (bound : r.goals ≤ 16384) where
             (λ same. ap (λ (j : ℕ). get_or (set s.settled (g - 1) true) j false) same ∙ get_or-set_same s.settled (g - 1) true false inside)
             (λ other.
             get_or-set_other s.settled (g - 1) (i - 1) true false other
-            ∙ ⊎_elim (λ b. h.marks i k b) (λ e. let z : i ≡ g = cc in absurd (other (ap (λ (j : ℕ). j - 1) z))) (among_cases done (step.Settle g c) m))
+            ∙ ⊎_elim (λ b. h.marks i k b) (λ e. let z : i ≡ g = cc in absurd (other (ap (λ (j : ℕ). j - 1) z))) (Contains-push_cases done (step.Settle g c) (step.Settle i k) m))
             (cases_eq (i - 1) (g - 1));
         settled_by =
             λ i pos e.
             ⊎_elim
-            (λ same. subst (SettledBy r (done ++ step.Settle g c ∷ []) s.list) (sym same) (c, among_last done (step.Settle g c), t.2, t.3))
+            (λ same. subst (SettledBy r (done ++ step.Settle g c ∷ []) s.list) (sym same) (c, Contains-push done (step.Settle g c), t.2, t.3))
             (λ other.
             let b = h.settled_by i pos (sym (get_or-set_other s.settled (g - 1) (i - 1) true false (λ z. other (omega arith))) ∙ e) in
-            (b.0, among_push done (step.Settle g c) b.1, b.2, b.3))
+            (b.0, Contains-append_left done (step.Settle g c ∷ []) (step.Settle i b.0) b.1, b.2, b.3))
             (cases_eq i g);
         long = length-set s.settled (g - 1) true ∙ long;
       }
@@ -192,21 +177,22 @@ module _ (r : Rules) (bound : r.goals ≤ 16384) where
       ok_both (OpensWell s done) (λ _. h) r.opening _
       (λ u e k ke.
       record {
+        accepted = e;
         clauses = tt;
         derived = nothing;
-        marks = λ g i a. absurd (none_among a);
+        marks = λ g i a. let none : a.0 < 0 = a.1 in absurd (omega arith);
         settled_by = λ g pos se. absurd (false≢true (sym (none_settled 16384 (g - 1)) ∙ se));
         long = length-replicate 16384 false;
       }))
       (λ _ _. h)
 
-  next_stands : (s : State) (done : List Step) (c : Call) → Stands s done → Stands (next r s c) (noted r s done c)
+  pub next_stands : (s : State) (done : List Step) (c : Call) → Stands s done → Stands (next r s c) (noted r s done c)
   next_stands s done (opens n) h = open_stands s done n h
   next_stands s done (steps p) h = step_stands s done p h
   next_stands s done (takes bytes) h = take_stands s done bytes (step_from bytes) refl h
   next_stands s done (closes n) h = cond_both (is_case s n) _ _ (λ (t : State). Stands t done) (λ _ k e. absurd (none_some k e)) (λ _. h)
 
-  run_stands : (s : State) (done : List Step) (cs : List Call) → Stands s done → Stands (run r s cs) (history r s done cs)
+  pub run_stands : (s : State) (done : List Step) (cs : List Call) → Stands s done → Stands (run r s cs) (history r s done cs)
   run_stands s done [] h = h
   run_stands s done (c ∷ cs) h = run_stands (next r s c) (noted r s done c) cs (next_stands s done c h)
 

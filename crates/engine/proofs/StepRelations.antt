@@ -1,8 +1,7 @@
 -- Steps and settlings at a state with an open case whose clauses fit: those that the rules allow, and no others.
 use Rattle.std.proofs.Common.{◌≡◌, ℕ, ◌+◌, ◌-◌, ◌≤◌, true, false, ◌&&◌, ltb, leb, ◌⊎◌, List, [], ◌∷◌, ◌++◌, length, set, Some, None, Ok, Err, Option, Result, sym, refl, ap, ◌∙◌, subst, inl, inr, ⊎_elim, arith}
 use Rattle.std.specs.List.{AllByRecursion}
-use Rattle.std.proofs.ByRecursion.{All-get_or}
-use Rattle.std.proofs.lemmas.Bool.{both_ways, cond_both, cond-true, cond-false, cases_Bool, and_parts, and_from, leb-true, le-leb, ltb-true, ltb-false, ne_eqb}
+use Rattle.std.proofs.lemmas.Bool.{both_ways, cond_both, cond-true, cond-false, cases_Bool, and_parts, and_from, le-leb, ltb-true, ltb-false}
 use Rattle.base.specs.Causes.{Refusal, refused}
 use Rattle.clauses.specs.declared.entry.Entry.{Entry}
 use Rattle.clauses.specs.Worlds.{same_entry, complement_entry}
@@ -15,7 +14,7 @@ use Rattle.engine.specs.Plain.{Rules, State, on_ok, on_some, here, judged, file,
 use Rattle.engine.specs.Histories.{Once, Consistent, Resolvent, Filed, Allows, premise, resolve, TooMuch, Accepted, Refused, Settles}
 use Rattle.engine.specs.Lawful.{LawfulSteps, LawfulSettlings}
 use Rattle.engine.proofs.RowLaws.{err_ok, same_ok, numbered_filed, filed_all, there_parts}
-use Rattle.engine.proofs.Soundness.{case_both, judged_both, filed_parts}
+use Rattle.engine.proofs.Ways.{case_both, judged_both, filed_parts}
 use Rattle.engine.proofs.ClauseRelations.{KeptOnce, once_first, first_kept, first_once, contained_all, all_contained, resolves, resolvent_from, resolvent_once, from_resolvent}
 
 -- a clause as a step files it

@@ -4,20 +4,18 @@ use Rattle.std.specs.List.{AllByRecursion}
 use Rattle.base.specs.declared.faults.Fault.{Fault}
 use Rattle.clauses.specs.declared.entry.Entry.{Entry}
 use Rattle.records.specs.declared.slip.Slip.{Slip}
-use Rattle.records.specs.declared.step.Step.{Step}
 use Rattle.engine.specs.declared.examiner.Examiner.{Examiner}
 use Rattle.engine.specs.declared.run.Answer.{Answer}
 use Rattle.engine.specs.declared.run.Call.{Call}
 use Rattle.engine.specs.declared.shelf.Shelf.{Ghosts as ShelfGhosts}
 use Rattle.engine.specs.declared.side.Side.{Ghosts as SideGhosts}
 use Rattle.engine.specs.declared.ticket.Ticket.{Ticket}
-use Rattle.engine.specs.Plain.{Rules, State, start, step_result, close_slip}
-use Rattle.engine.specs.Means.{rules, rules_of, state_of, Kept, Steps, Opens, Closes, Takes}
+use Rattle.engine.specs.Plain.{Rules, State, start, close_slip}
+use Rattle.engine.specs.Means.{rules, rules_of, state_of, Opens}
 use Rattle.engine.specs.Runs as runs
-use Rattle.engine.specs.Called.{called, told_answer, Calls, RunsTo}
+use Rattle.engine.specs.Called.{called, told_answer, RunsTo}
 use Rattle.engine.specs.Verdicts.{SlipHolds, AnswerHolds, Reached, SoundSlip, SoundRun, Examined}
 use Rattle.engine.proofs.HistoryLaws.{all_runs_lawful}
-use Rattle.engine.proofs.RunLaws.{run_more}
 use Rattle.engine.proofs.Soundness.{sound_closing, sound_answers}
 
 pub run_append : (r : Rules) (s : State) (cs ds : List runs.Call) → runs.run r s (cs ++ ds) ≡ runs.run r (runs.run r s cs) ds

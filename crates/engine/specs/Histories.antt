@@ -1,5 +1,6 @@
 -- What the rules allow, and what a run's history says of its slips.
 use Rattle.std.specs.Prelude.{◌≡◌, ℕ, ◌+◌, ◌<◌, ◌≤◌, true, false, ◌⊎◌, List, [], ◌∷◌, ◌++◌, length, Ok, Err, Result, ◌≢◌}
+use Rattle.std.specs.List.{Contains}
 use Rattle.base.specs.Causes.{Refusal}
 use Rattle.clauses.specs.declared.entry.Entry.{Entry}
 use Rattle.clauses.specs.Worlds.{complement_entry}
@@ -100,12 +101,7 @@ pub data Derives (r : Rules) : List Step → List (List Entry) → Type 0 where
   more : {ss : List Step} {cs : List (List Entry)} {c : List Entry} (p : Step) → Derives r ss cs → Allows r cs p c → Derives r (ss ++ p ∷ []) (cs ++ c ∷ [])
   settling : {ss : List Step} {cs : List (List Entry)} (g k : ℕ) → Derives r ss cs → Derives r (ss ++ step.Settle g k ∷ []) cs
 
--- a step stands among those
-pub data Among (p : Step) : List Step → Type 0 where
-  here : {ps : List Step} → Among p (p ∷ ps)
-  there : {q : Step} {ps : List Step} → Among p ps → Among p (q ∷ ps)
-
 -- goal g was settled, in this history, by a clause that these derived ones have
 abbrev pub SettledBy : Rules → List Step → List (List Entry) → ℕ → Type 0
 SettledBy r done cs g =
-    (k : ℕ) × Among (step.Settle g k) done × Filed cs k × ((x : Entry) → LiteralOf x (clause_at cs k) → LiteralOf x (r.goal g))
+    (k : ℕ) × Contains done (step.Settle g k) × Filed cs k × ((x : Entry) → LiteralOf x (clause_at cs k) → LiteralOf x (r.goal g))

@@ -1,5 +1,5 @@
 -- The plain case: what an examiner answers and then holds, by the side's rules and the shelf's list of clauses.
-use Rattle.std.specs.Prelude.{ℕ, zero, suc, ◌+◌, ◌-◌, Bool, true, false, cond, ◌&&◌, List, [], ◌∷◌, ◌++◌, length, replicate, Some, None, Ok, Err, Option, Result, nat_eq, nat_le, slice_index_or, slice_set, take, count_by}
+use Rattle.std.specs.Prelude.{ℕ, zero, suc, ◌+◌, ◌-◌, Bool, true, false, cond, ◌&&◌, List, [], ◌∷◌, ◌++◌, length, replicate, Some, None, Ok, Err, Option, Result, ◌==◌, nat_le, slice_index_or, slice_set, take, count_by}
 use Rattle.base.specs.Causes.{Refusal, refused}
 use Rattle.clauses.specs.declared.entry.Entry.{Entry}
 use Rattle.clauses.specs.Worlds.{same_entry, complement_entry}
@@ -143,7 +143,7 @@ ending r s n = on_some (lowest_open s 1 r.goals) (verdict_slip r.says n (length 
 
 -- whether a ticket with this number is the open case's
 abbrev pub is_case : State → ℕ → Bool
-is_case s n = on_some s.case false (λ k. nat_eq k n)
+is_case s n = on_some s.case false (λ k. k == n)
 
 -- close: the open case's ticket drops the number; any other is stray
 abbrev pub close_slip : Rules → State → ℕ → Slip

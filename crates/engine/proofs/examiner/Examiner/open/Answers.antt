@@ -1,4 +1,4 @@
-use Rattle.std.proofs.Common.{◌≡◌, ℕ, Bool, true, false, [], replicate, Some, None, Ok, Option, vec_items, rules, sym, refl, ap, ◌∙◌}
+use Rattle.std.proofs.Common.{◌≡◌, ℕ, true, false, [], replicate, Some, None, Ok, Option, vec_items, rules, sym, refl, ap, ◌∙◌}
 use Rattle.std.proofs.lemmas.Bool.{true≢false}
 use Rattle.engine.specs.Means.{rules_of, state_of}
 use Rattle.engine.specs.Plain.{Rules, State, opened, on_some, on_ok, is_open}
