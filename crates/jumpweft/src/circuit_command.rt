@@ -4,7 +4,7 @@ use super::failure::{Failure, refused};
 use super::text::Text;
 use base::faults::Fault;
 use base::values::ValueWord;
-use circuit::tables::{CircuitHead, Gate};
+use circuit::tables::{CircuitHead, Gate, MAX_OUTPUTS, MAX_WIRES};
 use reach::{fill_reaches, wire_reach};
 use spelling::read_circuit;
 use std::alloc::{AllocError, Global};
@@ -36,8 +36,8 @@ pub(crate) fn run(rt: &HostRuntime, arguments: &Arguments<'_>) -> Result<(), Fai
 impl Tables {
     // Tables of the lengths that the options give, or else long enough for every circuit.
     fn new(heap: Global, arguments: &Arguments<'_>) -> anyhow::Result<Tables> {
-        let outputs = arguments.number("--outputs", 4_096)?;
-        let gates = arguments.number("--gates", 60_000)?;
+        let outputs = arguments.number("--outputs", MAX_OUTPUTS as usize)?;
+        let gates = arguments.number("--gates", MAX_WIRES as usize)?;
         Ok(Tables {
             outputs: vec![in heap; 0u32; outputs]?,
             gates: vec![in heap; Gate::default(); gates]?,

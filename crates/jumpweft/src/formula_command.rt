@@ -3,12 +3,13 @@ use super::arguments::Arguments;
 use super::failure::{Failure, refused};
 use super::text::Text;
 use base::faults::Fault;
-use formula::tables::{Clause, Head, Kind, Literal, Variable};
+use formula::tables::{Clause, Head, Literal, MAX_CLAUSES, MAX_VARIABLES, Variable};
 use spelling::read_formula;
 use std::alloc::Global;
 use std::io;
 use std::io::{BufWriter, Write};
 use words::place::Place;
+use words::word::LONGEST_TEXT;
 
 #[derive(Drop)]
 struct Tables {
@@ -34,10 +35,10 @@ pub(crate) fn run(rt: &HostRuntime, arguments: &Arguments<'_>) -> Result<(), Fai
 impl Tables {
     // Tables of the lengths that the options give, or else long enough for every formula of this many bytes.
     fn new(heap: Global, arguments: &Arguments<'_>, bytes: usize) -> anyhow::Result<Tables> {
-        let variables = arguments.number("--variables", 65_535)?;
-        let clauses = arguments.number("--clauses", 16_384)?;
+        let variables = arguments.number("--variables", MAX_VARIABLES as usize)?;
+        let clauses = arguments.number("--clauses", MAX_CLAUSES as usize)?;
         // A text of b bytes has at most b / 2 literals.
-        let literals = arguments.number("--literals", (bytes / 2).min(16_777_216))?;
+        let literals = arguments.number("--literals", (bytes / 2).min(LONGEST_TEXT))?;
         Ok(Tables {
             variables: vec![in heap; Variable::default(); variables]?,
             clauses: vec![in heap; Clause::default(); clauses]?,
@@ -59,25 +60,12 @@ impl Tables {
         let mut out = BufWriter::new(rt.alloc(), rt.stdout())?;
         writeln!(out, "accepted, place {}\n{head}", place.at)?;
         for (number, variable) in (1..=head.variables).zip(&self.variables) {
-            print_variable(&mut out, number, *variable)?;
+            writeln!(out, "variable {number}: {variable}")?;
         }
         for (number, clause) in (1..=head.clauses).zip(&self.clauses) {
             print_clause(&mut out, number, *clause, self.literals.as_slice())?;
         }
         out.flush()
-    }
-}
-
-fn print_variable<W: Write>(out: &mut W, number: u32, variable: Variable) -> Result<(), io::Error> {
-    let position = variable.position;
-    let word = variable.dependencies.bits;
-    match variable.kind {
-        Kind::Undeclared => writeln!(out, "variable {number}: undeclared"),
-        Kind::Universal => writeln!(out, "variable {number}: universal {position}"),
-        Kind::Existential => writeln!(
-            out,
-            "variable {number}: existential {position}, dependencies {word:016x}"
-        ),
     }
 }
 
@@ -91,8 +79,7 @@ fn print_clause<W: Write>(
     write!(out, "clause {number}: first {first}, length {len}:")?;
     let behind = literals.get(first as usize..).unwrap_or(&[]);
     for literal in behind.iter().take(len as usize) {
-        let sign = if literal.negative { "-" } else { "" };
-        write!(out, " {sign}{}", literal.variable)?;
+        write!(out, " {literal}")?;
     }
     writeln!(out)
 }

@@ -1,18 +1,19 @@
 // The shelf that the options name, over rows of the lengths that they give.
 use super::arguments::Arguments;
 use anyhow::anyhow;
+use clauses::clause::LONGEST_CLAUSE;
+use linked::blocks::MOST_BLOCKS;
 use linked::shelf::LinkedShelf;
 use shelves::flat::FlatShelf;
+use shelves::{MOST_CLAUSES, MOST_ENTRIES};
 use std::alloc::{AllocError, Global};
 use std::str::FromStr;
 
-// The most clauses and entries that a shelf takes.
-const CLAUSES: u64 = 1_000_000;
+const CLAUSES: u64 = MOST_CLAUSES as u64;
 
-const ENTRIES: u64 = 16_000_000;
+const ENTRIES: u64 = MOST_ENTRIES as u64;
 
-// The most blocks of four entries that a linked shelf can use.
-const BLOCKS: u64 = 4_750_000;
+const BLOCKS: u64 = MOST_BLOCKS as u64;
 
 #[derive(Clone, Copy, Drop, Default)]
 pub(crate) enum ShelfKind {
@@ -53,7 +54,11 @@ impl ShelfRows {
     // record of at least 8 bytes, and has at most 1,024 entries.
     pub(crate) fn for_proof(arguments: &Arguments<'_>, bytes: usize) -> anyhow::Result<ShelfRows> {
         let clauses = (bytes as u64 / 8).min(CLAUSES);
-        ShelfRows::given(arguments, clauses, (clauses * 1_024).min(ENTRIES))
+        ShelfRows::given(
+            arguments,
+            clauses,
+            (clauses * LONGEST_CLAUSE as u64).min(ENTRIES),
+        )
     }
 
     // The rows that the options give, or else of these lengths.

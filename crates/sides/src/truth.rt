@@ -10,6 +10,7 @@ ghost use Rattle.sides.specs.SideRules.{truth_rules};
 use base::faults::{Cause, Fault};
 use clauses::entry::Entry;
 use engine::side::{Side, Verdict};
+use formula::tables::MAX_CLAUSES;
 use gates::goals::copy_goal;
 use gates::opening::check_opening;
 use gates::wiring::lay_wiring;
@@ -74,7 +75,7 @@ impl<'a> Side for TruthSide<'a> {
     }
 
     fn goal_count(&self) -> u32 {
-        self.formula.head.clauses.min(16_384)
+        self.formula.head.clauses.min(MAX_CLAUSES)
     }
 
     fn copy_goal(&self, number: u32, row: &mut [Entry]) -> usize {

@@ -46,6 +46,7 @@ impl<S: Side, F: Shelf> Examiner<S, F> {
 pub fn entries_on<F: Shelf>(shelf: &F) -> u32
     ensures { result ≡ entries_in (F.Shelf.list shelf.now) }
 {
+    // A loop: a proof does not find what a range yields through `map` and `sum`.
     let mut total = 0;
     for number in 1..=shelf.count() {
         total += shelf.length(number);

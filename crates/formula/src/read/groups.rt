@@ -33,6 +33,7 @@ pub(crate) enum Group {
     Dependent,
 }
 
+// The group that a word begins. That it begins none is no error: the clauses follow.
 fn group_of(word: &[u8]) -> Option<Group>
     ensures { result ≡ group_in word.now }
 {

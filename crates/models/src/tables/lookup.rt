@@ -7,7 +7,7 @@ ghost use Rattle.spelling.specs.Dqbf.{Dqbf};
 use super::{CircuitTables, FormulaTables};
 use audit::circuits::audit_circuit;
 use audit::formulas::audit_formula;
-use formula::tables::{Literal, Variable};
+use formula::tables::{Literal, MAX_LITERALS, Variable};
 
 impl<'a> FormulaTables<'a> {
     // Whether an accepted reading leaves these tables; they then hold a lawful formula.
@@ -44,7 +44,7 @@ impl<'a> FormulaTables<'a> {
         let Some(rest) = self.literals.get(span.first as usize..) else {
             return &[];
         };
-        let len = (span.len as usize).min(1_024).min(rest.len());
+        let len = (span.len as usize).min(MAX_LITERALS).min(rest.len());
         &rest[..len]
     }
 }
