@@ -8,7 +8,7 @@ use base::faults::Cause;
 // The most literals that a filed clause may have.
 pub const LONGEST_CLAUSE: usize = 1_024;
 
-// What of a literal and its complement stands first in a clause.
+// What of a literal and its complement stands first in a clause: three answers, none of which holds a value.
 #[derive(Clone, Copy, PartialEq, Eq, Debug)]
 pub enum Found {
     Same,
@@ -35,6 +35,7 @@ fn find<L: Literal + Copy>(clause: &[L], x: &L) -> Found
     ensures { result ≡ found_in L.Alike.like x.now (L.Literal.opposite x.now) clause.now }
 {
     let complement = x.complement();
+    // Two literals are looked for at once, so a chain is no shorter.
     for y in clause {
         if y.alike(x) {
             return Found::Same;

@@ -68,6 +68,7 @@ fn read_formula(rt: &HostRuntime, text: &Text<'_>) -> Result<FormulaRows, Failur
     read.or_else(|fault| text_refused(rt, "formula", text, fault))
 }
 
+// As for a formula, but for the reader that is called and the rows that it fills.
 fn read_circuit(rt: &HostRuntime, text: &Text<'_>) -> Result<CircuitRows, Failure> {
     let read = circuit_rows(rt.alloc(), text.bytes.as_slice())?;
     read.or_else(|fault| text_refused(rt, "circuit", text, fault))
