@@ -1,6 +1,5 @@
 -- The audit's recursions, one entry further.
-use Rattle.std.proofs.Common.{◌≡◌, ℕ, ◌+◌, ◌<◌, ◌≤◌, Bool, not, ◌&&◌, ◌||◌, eqb, leb, List, length, get_or, take, drop, Some, sym, ap, ◌∙◌}
-use Rattle.std.proofs.Math.Bool.{or_comm}
+use Rattle.std.proofs.Common.{◌≡◌, ℕ, ◌+◌, ◌<◌, ◌≤◌, not, ◌&&◌, leb, List, length, get_or, take, drop, Some}
 use Rattle.std.proofs.lemmas.List.{at_drop_more, at_drop_all, take_more}
 use Rattle.formula.specs.declared.tables.Head.{Head}
 use Rattle.formula.specs.declared.tables.Literal.{Literal}
@@ -8,7 +7,6 @@ use Rattle.formula.specs.declared.tables.Variable.{Variable}
 use Rattle.formula.specs.Groups.{variable_at, is_undeclared}
 use Rattle.formula.specs.Clauses.{names}
 use Rattle.formula.specs.Reading.{no_literal}
-use Rattle.formula.proofs.ClauseLaws.{names_push}
 use Rattle.audit.specs.declared.formulas.Owners.{Owners}
 use Rattle.audit.specs.FormulaAudit.{records_own, clause_lawful}
 
@@ -20,13 +18,3 @@ records_all head v o xs i h = at_drop_all (λ ys. records_own head v ys o) xs i 
 module _ (vs : List Variable) (ls : List Literal) (i : ℕ) where
   pub literals_step : i < length ls → let l = get_or ls i no_literal in clause_lawful vs (take i ls) (drop i ls) ≡ (leb 1 l.variable && leb l.variable (length vs) && not (is_undeclared (variable_at vs l.variable).kind) && not (names l.variable (take i ls)) && clause_lawful vs (take (i + 1) ls) (drop (i + 1) ls))
   literals_step h = rw (take_more ls i no_literal h) (at_drop_more (clause_lawful vs (take i ls)) ls i no_literal h)
-
--- one more literal of a clause is named
-pub named_more : (ls : List Literal) (i : ℕ) (was is : ℕ → Bool) → i < length ls → ((v : ℕ) → was v ≡ names v (take i ls)) → ((v : ℕ) → is v ≡ (eqb (get_or ls i no_literal).variable v || was v)) → (v : ℕ) → is v ≡ names v (take (i + 1) ls)
-named_more ls i was is h before more v =
-    let l = get_or ls i no_literal in
-    more v
-    ∙ or_comm (eqb l.variable v) (was v)
-    ∙ ap (λ b. b || eqb l.variable v) (before v)
-    ∙ sym (names_push v (take i ls) l)
-    ∙ sym (ap (names v) (take_more ls i no_literal h))

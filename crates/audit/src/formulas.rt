@@ -3,12 +3,10 @@ ghost use Rattle.std.specs.Prelude.{◌≡◌, ◌+◌, ◌<◌, ◌≤◌, [], 
 ghost use Rattle.std.specs.Bool.{then_some};
 ghost use Rattle.audit.specs.FormulaAudit.{head_lawful, free, owns, all_owned, variables_lawful, clause_lawful, clauses_lawful, formula_lawful, LeftByAFormulaText};
 
-use self::marks::Marks;
 use super::all_are;
 use base::values::ValueWord;
+use formula::marks::Marks;
 use formula::tables::{Clause, Head, Kind, Literal, Variable};
-
-mod marks;
 
 fn lawful_head(head: Head, variables: usize, clauses: usize) -> bool
     ensures { result ≡ head_lawful head variables clauses }
@@ -101,19 +99,18 @@ fn lawful_variables(head: Head, vars: &[Variable]) -> bool
 // Whether these are literals of declared variables, none of which is named twice.
 fn lawful_clause(declared: &[Variable], marks: &mut Marks, literals: &[Literal]) -> bool
     requires variables { length declared.now ≤ 65535 }
-    requires stamp { marks.old.stamp < 65535 }
-    ensures is { result ≡ clause_lawful declared.now [] literals.now }
-    ensures stamp { marks.new.stamp ≡ marks.old.stamp + 1 }
+    ensures { result ≡ clause_lawful declared.now [] literals.now }
 {
-    marks.begin();
+    marks.next_clause();
     for literal in literals {
         let v = literal.variable;
         if v == 0 || v as usize > declared.len() {
             return false;
         }
-        if declared[v as usize - 1].kind == Kind::Undeclared || !marks.name(v) {
+        if declared[v as usize - 1].kind == Kind::Undeclared || marks.has(v) {
             return false;
         }
+        marks.add(v);
     }
     true
 }
@@ -123,15 +120,11 @@ fn lawful_clauses(head: Head, vars: &[Variable], clauses: &[Clause], literals: &
     requires variables { head.variables ≤ length vars.now }
     requires few_variables { head.variables ≤ 65535 }
     requires clauses { head.clauses ≤ length clauses.now }
-    requires few_clauses { head.clauses ≤ 16384 }
     ensures { result ≡ clauses_lawful head vars.now clauses.now literals.now }
 {
     let declared = &vars[..head.variables as usize];
     let (used, free) = clauses.split_at(head.clauses as usize);
-    let mut marks = Marks {
-        of: [0; 65_536],
-        stamp: 0,
-    };
+    let mut marks = Marks::new();
     let mut at = 0;
     for clause in used {
         if clause.first as usize != at || clause.len > 1_024 {

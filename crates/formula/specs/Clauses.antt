@@ -1,5 +1,5 @@
 -- The clauses, by recursion on the words that are left.
-use Rattle.std.specs.Prelude.{◌≡◌, ℕ, zero, suc, ◌-◌, ◌≤◌, Bool, false, cond, ◌||◌, List, [], ◌∷◌, ◌++◌, length, Ok, Err, Result, ◌==◌, nat_le, nat_lt, slice_index}
+use Rattle.std.specs.Prelude.{ℕ, zero, suc, ◌-◌, Bool, false, cond, ◌||◌, List, [], ◌∷◌, ◌++◌, length, Ok, Err, Result, ◌==◌, nat_le, nat_lt}
 use Rattle.base.specs.Causes.{Refusal, refused}
 use Rattle.words.specs.declared.forms.Numeral.{Numeral}
 use Rattle.words.specs.Words.{Spelt, start_of, end_of}
@@ -54,7 +54,3 @@ clauses_from known vs zero done ws q room size = Ok (done, ws, q)
 clauses_from known vs (suc n) done ws q room size =
     and_then (clause_from known vs [] ws (room - length done.literals) size)
     (λ c. clauses_from known vs n (add_clause done c.0) c.1 c.2 room size)
-
--- the variables of a clause's literals are those whose mark is the clause's stamp, and no mark is above it
-abbrev pub Marks : List Literal → List ℕ → ℕ → Type 0
-Marks done marks stamp = (v : ℕ) → ((slice_index marks v == stamp) ≡ names v done) × (slice_index marks v ≤ stamp)

@@ -1,6 +1,7 @@
 // Formulas: their tables and the reader of formula texts.
 #![tactic(auto)]
 
+pub mod marks;
 pub mod print;
 pub mod read;
 pub mod tables;

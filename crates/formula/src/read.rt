@@ -16,7 +16,6 @@ use words::word::LONGEST_TEXT;
 
 pub mod clauses;
 pub mod groups;
-mod marks;
 
 // The record of v, where v is one of these variables, which are numbered from 1.
 pub(crate) fn variable(vars: &[Variable], v: u32) -> Option<Variable>

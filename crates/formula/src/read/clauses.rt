@@ -8,8 +8,8 @@ ghost use Rattle.formula.specs.Clauses.{no_clause, literal_of, judge_literal, cl
 ghost use Rattle.formula.specs.Groups.{followed};
 ghost use Rattle.formula.specs.Marks.{has_mark};
 
+use super::super::marks::Marks;
 use super::super::tables::{Clause, Kind, Literal, MAX_LITERALS, Variable};
-use super::marks::Marks;
 use super::variable;
 use base::faults::{Cause, Fault, Layer};
 use words::due::read_literal;
@@ -25,11 +25,10 @@ fn check_literal(
     number: Numeral,
     at: usize,
 ) -> Result<Literal, Fault>
-    requires variables { length vars.now ≤ MAX_VARIABLES }
     requires above { 0 < number.value }
     ensures is { answered result ≡ judge_literal (length vars.now) vars.now count (has_mark marks.now number.value) room number at }
     ensures same { IfOk result (λ l. l ≡ literal_of number) }
-    ensures known { OnOk result (number.value ≤ length vars.now) }
+    ensures known { IfOk result (λ l. l.variable ≤ length vars.now) }
     ensures room { OnOk result (count < room) }
     ensures few { OnOk result (count < MAX_LITERALS) }
 {
@@ -61,12 +60,10 @@ fn read_clause(
     rest: &mut [Literal],
 ) -> Result<usize, Fault>
     requires variables { length vars.now ≤ MAX_VARIABLES }
-    requires clauses { marks.old.clause < MAX_CLAUSES }
     ensures is { followed result (λ n. Ok (take n rest.new, words_from text.now place.new.at, place.new.at)) ≡ clause_from (length vars.now) vars.now [] (words_from text.now place.old.at) (length rest.old) (length text.now) }
     ensures few { IfOk result (λ n. n ≤ MAX_LITERALS) }
     ensures room { IfOk result (λ n. n ≤ length rest.old) }
     ensures kept { IfOk result (λ n. Kept n rest.old rest.new) }
-    ensures next { OnOk result (marks.new.clause ≡ marks.old.clause + 1) }
 {
     marks.next_clause();
     // How many literals are read: a table that is too short is refused last of a literal's faults.

@@ -7,5 +7,4 @@ invariant-loop-clause l =
     record {
       rest : spans_end l.declared l.at (drop l.clause-index l.used) l.literals ≡ spans_end l.declared 0 l.used l.literals;
       within : l.at ≤ length l.literals;
-      stamp : l.marks.stamp ≡ l.clause-index;
     }

@@ -1,9 +1,9 @@
-use Rattle.std.proofs.Common.{◌≡◌, ◌||◌, eqb, length, take, sym, ap, ◌∙◌, arith, rules}
+use Rattle.std.proofs.Common.{◌≡◌, length, take, sym, ap, ◌∙◌, arith, rules}
 use Rattle.std.proofs.lemmas.List.{take_more_set, length-take-le}
 use Rattle.words.specs.Words.{words_from}
 use Rattle.words.proofs.TableLaws.{drop_more_set}
 use Rattle.formula.specs.Clauses.{names}
-use Rattle.formula.proofs.ClauseLaws.{clause_unfold, names_push}
+use Rattle.formula.proofs.ClauseLaws.{clause_unfold, marks_push}
 use Rattle.formula.proofs.read.clauses.read_clause.Goals as goal
 
 pub returns-in_err-number : goal.returns-in_err-number
@@ -33,10 +33,5 @@ loop-number-preserved c =
       room = omega arith;
       few = omega (arith, c.in_ok-literal.ensures.few);
       kept = drop_more_set xs c.args.rest.now n l c.loop-number.invariant.kept;
-      marked = λ v.
-          c.add.ensures.marked v
-          ∙ ap (λ b. b || eqb l.variable v) (c.loop-number.invariant.marked v)
-          ∙ sym (names_push v (take n xs) l)
-          ∙ ap (names v) (sym put);
-      clause = omega (arith, c.add.ensures.clause);
+      marked = λ v. marks_push (take n xs) l _ _ (omega (arith, c.in_ok-literal.ensures.known)) c.loop-number.invariant.marked c.add.ensures v ∙ ap (names v) (sym put);
     }

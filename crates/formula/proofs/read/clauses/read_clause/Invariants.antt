@@ -14,7 +14,6 @@ invariant-loop-number l = record {
   few : l.n ≤ 1024;
   kept : Kept l.n l.initial.rest l.rest;
   marked : (v : ℕ) → has_mark l.marks v ≡ names v (take l.n l.rest);
-  clause : l.marks.clause ≡ l.initial.marks.clause;
 }
 
 abbrev pub decreases-loop-number : goal.decreases-loop-number

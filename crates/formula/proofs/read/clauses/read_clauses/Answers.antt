@@ -34,5 +34,4 @@ loop-clause-preserved c =
       room = omega arith;
       few = omega (arith, c.in_ok-len.ensures.few);
       kept = drop_put_rest at xs ys inside n ∙ kept ∙ ap (drop n) (take_rest xs at ∙ c.loop-clause.invariant.kept) ∙ drop-drop n at c.args.literals.now;
-      next = omega (arith, c.in_ok-len.ensures.next);
     }

@@ -11,5 +11,4 @@ invariant-loop-clause l = record {
   room : l.at ≤ length l.initial.literals;
   few : l.at ≤ 1024 * l.clause-index;
   kept : drop l.at l.literals ≡ drop l.at l.initial.literals;
-  next : l.marks.clause ≡ l.clause-index;
 }
