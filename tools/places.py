@@ -1,5 +1,5 @@
 #!/usr/bin/env python3
-"""Lists places in crates/*/src that are written in an older form of the language, for the page docs/DESIGN-PASS.md.
+"""Lists places in crates/*/src that may be written in plainer forms of the language, for the page docs/DESIGN-PASS.md.
 
 tools/places.py [-v] [POINT]    counts of each point, or with -v the lines themselves; run it at the top of a checkout.
 A line is a place to look at, not a verdict: what each is, and why some stay, says the page.

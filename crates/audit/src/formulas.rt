@@ -21,7 +21,7 @@ fn lawful_head(head: Head, variables: usize, clauses: usize) -> bool
 }
 
 // The variable that has each position among the universals and among the existentials. No variable has number 0, so
-// a 0 stands for none: an Option would double the arrays.
+// a 0 stands for none, as in the lent tables.
 #[derive(Drop)]
 struct Owners {
     universals: [u32; 65],

@@ -1,6 +1,6 @@
 // Circuits: their tables and the reader of circuit texts.
 #![tactic(auto)]
 
-pub mod print;
+mod print;
 pub mod read;
 pub mod tables;

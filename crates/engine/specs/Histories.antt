@@ -1,4 +1,4 @@
--- What the rules allow, and what a run's history says of its slips.
+-- What the rules allow, and what was derived and settled in a run.
 use Rattle.std.specs.Prelude.{◌≡◌, ℕ, ◌+◌, ◌<◌, ◌≤◌, true, false, ◌⊎◌, List, [], ◌∷◌, ◌++◌, length, Ok, Err, Result, ◌≢◌}
 use Rattle.std.specs.List.{Contains}
 use Rattle.base.specs.Causes.{Refusal}

@@ -1,4 +1,4 @@
--- Runs: lists of calls from the making on, and what is true after every one of them.
+-- Runs: lists of calls, and what each call answers and leaves.
 use Rattle.std.specs.Prelude.{ℕ, List, [], ◌∷◌, Ok, Err, Result}
 use Rattle.base.specs.Causes.{Refusal}
 use Rattle.records.specs.declared.slip.Slip.{Slip}

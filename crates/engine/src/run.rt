@@ -66,7 +66,7 @@ pub fn run<S: Side, F: Shelf>(
     ensures sound { (list : List (List Entry)) (before : List PlainCall) → Reached S.Side F.Shelf list before examiner.old → SoundRun S.Side F.Shelf result calls.now answers.new examiner.old examiner.new list before }
 {
     let count = calls.len().min(answers.len());
-    // By index: a proof knows nothing of answers that are written through a zipped iterator.
+    // By number: behind a loop over `iter_mut` and `zip` a proof does not know what was written.
     for (i, call) in calls[..count].iter().enumerate() {
         answers[i] = make_call(examiner, *call);
     }

@@ -2,6 +2,6 @@
 #![tactic(auto)]
 
 pub mod marks;
-pub mod print;
+mod print;
 pub mod read;
 pub mod tables;

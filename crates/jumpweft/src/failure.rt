@@ -8,9 +8,9 @@ use std::io;
 // Why the status is 1.
 #[derive(Drop)]
 pub(crate) enum Failure {
-    // What was printed says it: a refusal, a case that is not decided, a file's error, the usage.
+    // It is printed already: a refusal, a case that is not decided, a file's error, the usage.
     Told,
-    // Standard error has yet to say it.
+    // It is still to be printed, to standard error.
     Error(anyhow::Error),
 }
 

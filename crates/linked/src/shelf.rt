@@ -59,8 +59,8 @@ impl LinkedShelf {
         }
     }
 
-    // Where a clause is kept; a chain with no entries where there is no such clause. Its blocks are blocks of the pool,
-    // which the two that read them, `entry` and `copy` of the pool, ask for.
+    // Where a clause is kept; a chain with no entries where there is no such clause. That its blocks
+    // lie in the pool is asked by `entry` and `copy` alone, and a chain knows no pool, so it is no ghost field of one.
     fn find(&self, number: u32) -> Chain
         ensures is { clause_of (blocks_of self.now.pool) result ≡ clause_at (clauses_of (blocks_of self.now.pool) self.now.index.items) number }
         ensures within { Within self.now.pool result }

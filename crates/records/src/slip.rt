@@ -101,7 +101,7 @@ fn slip_with(verdict: u8, case: u32, clauses: u32, goal: u32) -> Option<Slip>
     if clauses > MOST_CLAUSES {
         return None;
     }
-    // The numbers of Verdict: each has its own test of the fields.
+    // The bytes of the format, as in Verdict: each has its own test of the fields.
     match (verdict, goal) {
         (1, 0) => Some(Slip::True { case, clauses }),
         (2, 0) => Some(Slip::False { case, clauses }),

@@ -81,7 +81,7 @@ pub fn check_falsity<F: Shelf + Drop, P: Progress>(
 }
 
 // Replays the proof on a side and writes the slip. Where the slip has the side's verdict, every goal is true in every world.
-// The parameters are those of `replay`, which takes each by itself.
+// The parameters are those of `replay`, whose signature users have.
 fn check_case<S: Side + Drop, F: Shelf + Drop, P: Progress>(
     heap: Global,
     heads: Heads,

@@ -149,7 +149,8 @@ impl<S: Side, F: Shelf> Examiner<S, F> {
         self.file(resolved)
     }
 
-    // Settles a goal by a clause all of whose literals it has. Answers 0, as hosts are told of a step that files no clause.
+    // Settles a goal by a clause all of whose literals it has. Answers 0, as the hosts' interface has it for
+    // a step that files no clause.
     pub fn settle(&mut self, goal: u16, clause: u32) -> Result<u32, Fault>
         ensures { Steps S.Side F.Shelf (λ r s. settle_step r s goal clause) result self.old self.new }
     {
