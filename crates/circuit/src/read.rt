@@ -9,7 +9,7 @@ use super::tables::{CircuitHead, Gate, MAX_INPUTS, MAX_OUTPUTS, MAX_WIRES};
 use base::faults::{Cause, Fault, Layer};
 use words::due::{read_name, read_number};
 use words::place::{KeptPlace, Place};
-use words::word::LONGEST_TEXT;
+use words::word::check_length;
 
 // A literal that has to be this one.
 fn read_exact(text: &[u8], place: &mut Place, due: u32) -> Result<(), Fault>
@@ -144,9 +144,7 @@ fn read_into(
     ensures is { told_circuit result outputs.new gates.new place.new.at ≡ circuit_from text.now place.old.at (length outputs.old) (length gates.old) }
     ensures filled { IfOk result (λ h. Filled h outputs.old outputs.new gates.old gates.new) }
 {
-    if text.len() > LONGEST_TEXT {
-        return Err(Layer::Words.fault(Cause::TextTooLong, 0));
-    }
+    check_length(text)?;
     let head = read_header(text, place, outputs.len(), gates.len())?;
     read_inputs(text, place, head.inputs)?;
     read_outputs(
