@@ -28,6 +28,10 @@ count_from rule ws size = and_then (number_from ws size) (λ g. and_then (rule g
 abbrev pub at_most : ℕ → ℕ → ℕ → Result ℕ Refusal
 at_most bound n p = cond (nat_lt bound n) (Err (refused 9 p 3)) (Ok n)
 
+-- what a test may answer is what the rule says
+abbrev pub Judges : (ℕ → Bool → Type 0) → (ℕ → Bool) → Type 0
+Judges answer rule = (n : ℕ) (b : Bool) → answer n b → b ≡ rule n
+
 -- a table's count: a table that is too short comes before a broken limit
 abbrev pub table_count : ℕ → (ℕ → Bool) → ℕ → ℕ → Result ℕ Refusal
 table_count room breaks n p = cond (nat_lt room n) (Err (refused 8 p 3)) (cond (breaks n) (Err (refused 9 p 3)) (Ok n))
