@@ -1,9 +1,9 @@
 -- The owners of positions, as the audit enters them record by record.
 use Rattle.std.proofs.Common.{◌≡◌, ℕ, suc, ◌+◌, ◌<◌, ◌≤◌, Bool, true, false, ◌&&◌, eqb, leb, ◌⊎◌, List, [], ◌∷◌, length, get_or, set, replicate, Some, None, Option, sym, refl, ap, ◌∙◌, subst, inl, inr, ⊎_elim, add-zero, arith}
 use Rattle.std.specs.Option.{option_and_then}
-use Rattle.std.proofs.lemmas.List.{get_or-replicate, get_or_past, get_or-set_same, get_or-set_other, length-replicate, length-set}
+use Rattle.std.proofs.lemmas.List.{get_or-set_same, get_or-set_other, length-replicate, length-set}
 use Rattle.std.proofs.lemmas.Option.{cond_some, none-some, same_Some}
-use Rattle.std.proofs.lemmas.Bool.{both_ways, cases_eq, cases_lt, and_parts, leb-true, eqb-true}
+use Rattle.std.proofs.lemmas.Bool.{both_ways, cases_eq, and_parts, leb-true, eqb-true}
 use Rattle.base.specs.Words.{empty_word, first_word, within_word}
 use Rattle.formula.specs.declared.tables.Head.{Head}
 use Rattle.formula.specs.declared.tables.Kind.{Kind}
@@ -12,6 +12,7 @@ use Rattle.formula.specs.declared.tables.Variable.{Variable}
 use Rattle.formula.specs.Groups.{no_variable, is_universal}
 use Rattle.audit.specs.declared.formulas.Owners.{Owners}
 use Rattle.audit.specs.FormulaAudit.{owners, free, owns, owns_by, records_own}
+use Rattle.words.proofs.TableLaws.{get_or_zeros}
 
 abbrev pub is_existential : Kind → Bool
 is_existential kind.Undeclared = false
@@ -31,15 +32,8 @@ pub record Table (of : Kind → Bool) (r : ℕ → Variable) (n v : ℕ) (os : L
   pub from : (k : ℕ) → (get_or os k 0 ≡ 0) ⊎ Owner of r v k (get_or os k 0)
   pub to : (w : ℕ) → 1 ≤ w → w < v → of (r w).kind ≡ true → Entered n os w (r w).position
 
-get_or_zeros : (m k : ℕ) → ◌≡◌ {A = ℕ} (get_or (replicate m 0) k 0) 0
-get_or_zeros m k =
-    ⊎_elim
-    (λ h. get_or-replicate m k 0 0 h)
-    (λ h. get_or_past (replicate m 0) k 0 (omega (arith, length-replicate {A = ℕ} m 0)))
-    (cases_lt k m)
-
 pub table_start : (of : Kind → Bool) (r : ℕ → Variable) (n m : ℕ) → Table of r n 1 (replicate m 0)
-table_start of r n m = record { from = λ k. inl (get_or_zeros m k); to = λ w low high is. absurd (omega arith) }
+table_start of r n m = record { from = λ k. inl (get_or_zeros {X = ℕ} 0 m k); to = λ w low high is. absurd (omega arith) }
 
 module _ (of : Kind → Bool) (r : ℕ → Variable) (n v : ℕ) (os : List ℕ) (t : Table of r n v os) where
   owner_more : (k w : ℕ) → (w ≡ 0) ⊎ Owner of r v k w → (w ≡ 0) ⊎ Owner of r (v + 1) k w

@@ -3,15 +3,15 @@ ghost use Rattle.std.specs.Prelude.{◌≡◌, ◌+◌, ◌≤◌, length, Decid
 ghost use Rattle.audit.specs.CircuitAudit.{counts_lawful, outputs_lawful, gates_lawful, circuit_lawful, LeftByACircuitText};
 
 use super::all_are;
-use circuit::tables::{CircuitHead, Gate};
+use circuit::tables::{CircuitHead, Gate, MAX_INPUTS, MAX_OUTPUTS, MAX_WIRES};
 
 fn lawful_counts(head: CircuitHead, outputs: usize, gates: usize) -> bool
     ensures { result ≡ counts_lawful head outputs gates }
 {
-    head.inputs <= 64
-        && head.wires <= 60_000
-        && head.outputs <= 4_096
-        && head.gates <= 60_000
+    head.inputs <= MAX_INPUTS
+        && head.wires <= MAX_WIRES
+        && head.outputs <= MAX_OUTPUTS
+        && head.gates <= MAX_WIRES
         && head.wires == head.inputs + head.gates
         && head.outputs as usize <= outputs
         && head.gates as usize <= gates
@@ -26,7 +26,7 @@ fn lawful_outputs(bound: u32, outputs: &[u32]) -> bool
 
 // Each gate's right literals are below its own, the first gate's own being 2(inputs + 1).
 fn lawful_gates(inputs: u32, gates: &[Gate]) -> bool
-    requires { inputs + length gates.now ≤ 60000 }
+    requires { inputs + length gates.now ≤ MAX_WIRES }
     ensures { result ≡ gates_lawful inputs gates.now }
 {
     gates.iter().enumerate().all(|(g, gate)| {

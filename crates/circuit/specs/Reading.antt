@@ -3,7 +3,7 @@ use Rattle.std.specs.Prelude.{◌≡◌, ℕ, zero, suc, ◌+◌, ◌*◌, ◌�
 use Rattle.base.specs.declared.faults.Fault.{Fault}
 use Rattle.base.specs.Causes.{Refusal, told, refused, answered}
 use Rattle.words.specs.Words.{Spelt, words_from}
-use Rattle.words.specs.Due.{Got, and_then, number_from, name_from}
+use Rattle.words.specs.Due.{Got, and_then, number_from, name_from, unless_long}
 use Rattle.words.specs.Tables.{padded, Kept}
 use Rattle.circuit.specs.declared.tables.CircuitHead.{CircuitHead}
 use Rattle.circuit.specs.declared.tables.Gate.{Gate}
@@ -27,6 +27,10 @@ count_from rule ws size = and_then (number_from ws size) (λ g. and_then (rule g
 
 abbrev pub at_most : ℕ → ℕ → ℕ → Result ℕ Refusal
 at_most bound n p = cond (nat_lt bound n) (Err (refused 9 p 3)) (Ok n)
+
+-- what a test may answer is what the rule says
+abbrev pub Judges : (ℕ → Bool → Type 0) → (ℕ → Bool) → Type 0
+Judges answer rule = (n : ℕ) (b : Bool) → answer n b → b ≡ rule n
 
 -- a table's count: a table that is too short comes before a broken limit
 abbrev pub table_count : ℕ → (ℕ → Bool) → ℕ → ℕ → Result ℕ Refusal
@@ -98,7 +102,7 @@ pub record Filled (h : CircuitHead) (was is : List ℕ) (gates_were gates_are : 
 -- the circuit that a text spells from a place on, for tables of these lengths
 abbrev pub circuit_from : List ℕ → ℕ → ℕ → ℕ → Result Circuit Refusal
 circuit_from text place output_room gate_room =
-    cond (nat_lt 16777216 (length text)) (Err (refused 1 0 1)) (parts_from (words_from text place) output_room gate_room (length text))
+    unless_long (length text) (parts_from (words_from text place) output_room gate_room (length text))
 
 abbrev pub head_read : Result Circuit Refusal → Result CircuitHead Refusal
 head_read (Ok c) = Ok c.head

@@ -1,15 +1,15 @@
 // The reader of circuit texts: `aag M I L O A`, then inputs, outputs and gates.
-ghost use Rattle.std.specs.Prelude.{◌≡◌, ◌+◌, ◌≤◌, [], length, replicate, IfOk, OnOk};
+ghost use Rattle.std.specs.Prelude.{◌≡◌, ℕ, ◌+◌, ◌≤◌, Bool, false, [], length, replicate, IfOk, OnOk};
 ghost use Rattle.base.specs.Causes.{answered};
 ghost use Rattle.words.specs.Words.{words_from};
 ghost use Rattle.words.specs.Due.{got};
-ghost use Rattle.circuit.specs.Reading.{exact_from, below_from, count_from, at_most, header_from, inputs_from, outputs_from, gate_from, gates_from, told_table, told_circuit, Filled, circuit_from, head_read, outputs_read, gates_read, place_read, no_gate, Agrees};
+ghost use Rattle.circuit.specs.Reading.{exact_from, below_from, count_from, at_most, Judges, table_count, header_from, inputs_from, outputs_from, gate_from, gates_from, told_table, told_circuit, Filled, circuit_from, head_read, outputs_read, gates_read, place_read, no_gate, Agrees};
 
 use super::tables::{CircuitHead, Gate, MAX_INPUTS, MAX_OUTPUTS, MAX_WIRES};
 use base::faults::{Cause, Fault, Layer};
 use words::due::{read_name, read_number};
 use words::place::{KeptPlace, Place};
-use words::word::LONGEST_TEXT;
+use words::word::check_length;
 
 // A literal that has to be this one.
 fn read_exact(text: &[u8], place: &mut Place, due: u32) -> Result<(), Fault>
@@ -44,7 +44,29 @@ fn read_count(text: &[u8], place: &mut Place, most: u32) -> Result<u32, Fault>
     Ok(count)
 }
 
-// The counts, each judged at its word: a table that is too short comes before a count that breaks a limit.
+// A table's count: a table that is too short comes before a count that breaks a limit.
+fn read_table_count<F: Fn(u32) -> bool>(
+    text: &[u8],
+    place: &mut Place,
+    room: usize,
+    breaks: F,
+) -> Result<u32, Fault>
+    requires { F.IsAlwaysCallable breaks }
+    ensures is { (rule : ℕ → Bool) → Judges (F.post breaks) rule → got result (words_from text.now place.new.at) place.new.at ≡ count_from (table_count room rule) (words_from text.now place.old.at) (length text.now) }
+    ensures fits { IfOk result (λ n. n ≤ room) }
+    ensures unbroken { IfOk result (λ n. F.post breaks n false) }
+{
+    let (count, at) = read_number(text, place)?;
+    if count as usize > room {
+        return Err(Layer::Circuit.fault(Cause::TableShort, at));
+    }
+    if breaks(count) {
+        return Err(Layer::Circuit.fault(Cause::CircuitCount, at));
+    }
+    Ok(count)
+}
+
+// The counts, each judged at its word.
 fn read_header(
     text: &[u8],
     place: &mut Place,
@@ -63,20 +85,10 @@ fn read_header(
     let inputs = read_count(text, place, MAX_INPUTS)?;
     // There are no latches.
     read_count(text, place, 0)?;
-    let (outputs, at) = read_number(text, place)?;
-    if outputs as usize > output_room {
-        return Err(Layer::Circuit.fault(Cause::TableShort, at));
-    }
-    if outputs > MAX_OUTPUTS {
-        return Err(Layer::Circuit.fault(Cause::CircuitCount, at));
-    }
-    let (gates, at) = read_number(text, place)?;
-    if gates as usize > gate_room {
-        return Err(Layer::Circuit.fault(Cause::TableShort, at));
-    }
-    if wires.checked_sub(inputs) != Some(gates) {
-        return Err(Layer::Circuit.fault(Cause::CircuitCount, at));
-    }
+    let outputs = read_table_count(text, place, output_room, |outputs| outputs > MAX_OUTPUTS)?;
+    let gates = read_table_count(text, place, gate_room, |gates| {
+        wires.checked_sub(inputs) != Some(gates)
+    })?;
     Ok(CircuitHead {
         wires,
         inputs,
@@ -144,9 +156,7 @@ fn read_into(
     ensures is { told_circuit result outputs.new gates.new place.new.at ≡ circuit_from text.now place.old.at (length outputs.old) (length gates.old) }
     ensures filled { IfOk result (λ h. Filled h outputs.old outputs.new gates.old gates.new) }
 {
-    if text.len() > LONGEST_TEXT {
-        return Err(Layer::Words.fault(Cause::TextTooLong, 0));
-    }
+    check_length(text)?;
     let head = read_header(text, place, outputs.len(), gates.len())?;
     read_inputs(text, place, head.inputs)?;
     read_outputs(

@@ -12,7 +12,7 @@ use super::tables::{Clause, Head, Literal, MAX_CLAUSES, MAX_VARIABLES, Variable}
 use base::faults::{Cause, Fault, Layer};
 use words::due::{read_name, read_number};
 use words::place::{KeptPlace, Place};
-use words::word::LONGEST_TEXT;
+use words::word::check_length;
 
 pub mod clauses;
 pub mod groups;
@@ -82,9 +82,7 @@ fn read_into(
     ensures is { answered result ≡ head_read (formula_for text.now place.old.at (tables vars.old clauses.old literals.old)) }
     ensures filled { OnOk result (Reads text.now place.old.at result (tables vars.old clauses.old literals.old) (tables vars.new clauses.new literals.new) place.new.at) }
 {
-    if text.len() > LONGEST_TEXT {
-        return Err(Layer::Words.fault(Cause::TextTooLong, 0));
-    }
+    check_length(text)?;
     let (variables, count) = read_header(text, place, vars.len(), clauses.len())?;
     let vars = &mut vars[..variables as usize];
     let declared = read_groups(text, place, vars)?;

@@ -1,5 +1,5 @@
 -- The words that a reader asks for, by the list of words that are left: what is read, or the refusal.
-use Rattle.std.specs.Prelude.{ℕ, ◌<◌, ◌≤◌, Bool, cond, List, [], ◌∷◌, drop, Ok, Err, Result}
+use Rattle.std.specs.Prelude.{ℕ, ◌<◌, ◌≤◌, Bool, cond, List, [], ◌∷◌, drop, Ok, Err, Result, nat_lt}
 use Rattle.std.specs.Str.{bytes_eq}
 use Rattle.base.specs.declared.faults.Fault.{Fault}
 use Rattle.base.specs.Causes.{Refusal, told, refused}
@@ -29,6 +29,10 @@ word_form p = refused 2 p 1
 
 abbrev pub text_ends : ℕ → Refusal
 text_ends size = refused 4 size 1
+
+-- the answer to a text of this many bytes: with more than 16777216 it is refused, whatever it holds
+abbrev pub unless_long : {X : Type 0} → ℕ → Result X Refusal → Result X Refusal
+unless_long size answer = cond (nat_lt 16777216 size) (Err (refused 1 0 1)) answer
 
 abbrev pub no_number : List ℕ → ℕ → Refusal
 no_number bs p = refused (cond (over_nine bs) 3 2) p 1

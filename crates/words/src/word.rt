@@ -1,12 +1,15 @@
 // A word: a longest run of bytes that are no blanks, handed out as a stretch of the caller's text.
-ghost use Rattle.std.specs.Prelude.{◌≡◌, not, length, position};
+ghost use Rattle.std.specs.Prelude.{◌≡◌, not, length, position, Ok};
 ghost use Rattle.std.specs.Option.{option_map};
+ghost use Rattle.base.specs.Causes.{answered};
 ghost use Rattle.words.specs.Forms.{blank};
 ghost use Rattle.words.specs.Words.{classed, words_from, listed, Onward};
 ghost use Rattle.words.specs.Seen.{seen};
+ghost use Rattle.words.specs.Due.{unless_long};
 
 use super::forms::{Numeral, is_blank, is_letters, numeral_of};
 use super::place::Place;
+use base::faults::{Cause, Fault, Layer};
 
 // The most bytes that a text may have.
 pub const LONGEST_TEXT: usize = 16_777_216;
@@ -17,6 +20,16 @@ pub enum Word<'a> {
     Letter(&'a [u8], usize),
     Number(&'a [u8], usize, Numeral),
     Other(&'a [u8], usize),
+}
+
+// Refuses a text that is too long, before any of it is read.
+pub fn check_length(text: &[u8]) -> Result<(), Fault>
+    ensures { answered result ≡ unless_long (length text.now) (Ok tt) }
+{
+    if text.len() > LONGEST_TEXT {
+        return Err(Layer::Words.fault(Cause::TextTooLong, 0));
+    }
+    Ok(())
 }
 
 // Where the first word begins, if there is one.

@@ -12,6 +12,7 @@ returns-in-Ok c =
     let os = c.read_circuit.new.outputs in
     let gs = c.read_circuit.new.gates in
     let place = c.read_circuit.new.place.at in
+    let start = c.default-place.ensures in
     let os-long = c.as_mut_slice.ensures.len in
     let gs-long = c.as_mut_slice-2.ensures.len in
     let same =
@@ -19,8 +20,8 @@ returns-in-Ok c =
     (with_items_is c.in_ok-gates.gates gs (c.read_circuit.auto.gates ∙ gs-long)) in
     record {
       is = ap Ok same
-          ∙ accepted_rows text _ _ os gs place (os-long ∙ c.in_ok-outputs.ensures.len) (gs-long ∙ c.in_ok-gates.ensures.len) head c.in-Ok.ensures.is;
-      spelt = subst (λ (t : RowsOfCircuit). ReadsCircuit text (Ok t)) (sym same) (accepted_reads text os gs place head c.in-Ok.ensures.spelt);
+          ∙ accepted_rows text _ _ os gs place (os-long ∙ c.in_ok-outputs.ensures.len) (gs-long ∙ c.in_ok-gates.ensures.len) head (rw start at c.in-Ok.ensures.is);
+      spelt = subst (λ (t : RowsOfCircuit). ReadsCircuit text (Ok t)) (sym same) (accepted_reads text os gs place head (rw start at c.in-Ok.ensures.spelt));
     }
 
 pub returns-in-Err : goal.returns-in-Err
@@ -30,9 +31,10 @@ returns-in-Err c =
     let os = c.read_circuit.new.outputs in
     let gs = c.read_circuit.new.gates in
     let place = c.read_circuit.new.place.at in
+    let start = c.default-place.ensures in
     let os-long = c.as_mut_slice.ensures.len ∙ c.in_ok-outputs.ensures.len in
     let gs-long = c.as_mut_slice-2.ensures.len ∙ c.in_ok-gates.ensures.len in
     record {
-      is = refused_rows text _ _ os gs place os-long gs-long fault c.in-Err.ensures.is;
-      spelt = refused_reads text os gs place fault (c.read_circuit.auto.outputs ∙ os-long) (c.read_circuit.auto.gates ∙ gs-long) c.in-Err.ensures.spelt;
+      is = refused_rows text _ _ os gs place os-long gs-long fault (rw start at c.in-Err.ensures.is);
+      spelt = refused_reads text os gs place fault (c.read_circuit.auto.outputs ∙ os-long) (c.read_circuit.auto.gates ∙ gs-long) (rw start at c.in-Err.ensures.spelt);
     }
