@@ -10,7 +10,7 @@ use Rattle.formula.specs.declared.tables.Kind.{Kind}
 use Rattle.formula.specs.declared.tables.Kind.TheVariants as kind
 use Rattle.formula.specs.declared.tables.Literal.{Literal}
 use Rattle.formula.specs.declared.tables.Variable.{Variable}
-use Rattle.formula.specs.Groups.{is_universal, is_undeclared}
+use Rattle.formula.specs.Groups.{is_universal, is_existential, is_undeclared}
 use Rattle.clauses.specs.declared.entry.Entry.{Entry}
 use Rattle.clauses.specs.Worlds.{true_in}
 use Rattle.records.specs.declared.step.Premise.{Premise}
@@ -18,7 +18,6 @@ use Rattle.records.specs.declared.step.Premise.TheVariants as premise
 use Rattle.spelling.specs.Dqbf.{Declaration, Dqbf, Lawful, member, record_of}
 use Rattle.spelling.proofs.PrefixLaws.{variables_of, place_universal}
 use Rattle.spelling.proofs.ProperWords.{no_ok}
-use Rattle.audit.proofs.FormulaOwners.{is_existential}
 use Rattle.audit.proofs.FormulaPlaces.{existential_place}
 use Rattle.models.specs.CircuitValues.{existential_at}
 use Rattle.models.specs.HeldTables.{RowsOfFormula, record_at, clause_of}

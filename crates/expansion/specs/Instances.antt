@@ -6,12 +6,11 @@ use Rattle.base.specs.Causes.{Refusal, refused}
 use Rattle.base.specs.Words.{has_bit, first_word, common_word, within_word}
 use Rattle.formula.specs.declared.tables.Literal.{Literal}
 use Rattle.formula.specs.declared.tables.Variable.{Variable}
+use Rattle.formula.specs.Groups.{is_universal, is_existential}
 use Rattle.clauses.specs.declared.entry.Entry.{Entry}
 use Rattle.clauses.specs.Worlds.{entry_of}
 use Rattle.records.specs.declared.step.Premise.{Premise}
 use Rattle.records.specs.declared.step.Premise.TheVariants as premise
-use Rattle.audit.proofs.FormulaOwners.{is_existential}
-use Rattle.formula.specs.Groups.{is_universal}
 use Rattle.models.specs.HeldTables.{RowsOfFormula, lawful_formula, record_at, clause_of}
 use Rattle.models.specs.Models.{signed}
 

@@ -10,13 +10,12 @@ use Rattle.base.specs.Causes.{Refusal}
 use Rattle.base.specs.Words.{has_bit, within_word}
 use Rattle.base.proofs.WordLaws.{within_bound, within_yes}
 use Rattle.formula.specs.declared.tables.Variable.{Variable}
-use Rattle.formula.specs.Groups.{no_variable}
+use Rattle.formula.specs.Groups.{no_variable, is_existential}
 use Rattle.reach.specs.Reach.{fills, Leads}
 use Rattle.spelling.specs.Dqbf.{Dqbf, existentials_of, record_of}
 use Rattle.spelling.specs.CircuitGrammar.{wires_of}
 use Rattle.audit.specs.FormulaAudit.{head_lawful, variables_lawful, clauses_lawful}
 use Rattle.audit.proofs.FormulaBounds.{variables_bound}
-use Rattle.audit.proofs.FormulaOwners.{is_existential}
 use Rattle.audit.proofs.FormulaPlaces.{existentials_all, place_existential}
 use Rattle.audit.proofs.FormulaVariables.{decides_variables}
 use Rattle.models.specs.CircuitValues.{output_at, existential_at, ReadsAllowed}
