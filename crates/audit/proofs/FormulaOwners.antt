@@ -10,14 +10,10 @@ use Rattle.formula.specs.declared.tables.Kind.{Kind}
 use Rattle.formula.specs.declared.tables.Kind.TheVariants as kind
 use Rattle.formula.specs.declared.tables.Variable.{Variable}
 use Rattle.formula.specs.Groups.{no_variable, is_universal}
+pub use Rattle.formula.specs.Groups.{is_existential}
 use Rattle.audit.specs.declared.formulas.Owners.{Owners}
 use Rattle.audit.specs.FormulaAudit.{owners, free, owns, owns_by, records_own}
 use Rattle.words.proofs.TableLaws.{get_or_zeros}
-
-abbrev pub is_existential : Kind → Bool
-is_existential kind.Undeclared = false
-is_existential kind.Universal = false
-is_existential kind.Existential = true
 
 -- w is a variable below v of a kind, and has position k
 abbrev pub Owner : (Kind → Bool) → (ℕ → Variable) → ℕ → ℕ → ℕ → Type 0

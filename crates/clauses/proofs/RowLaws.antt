@@ -1,7 +1,8 @@
 -- A row with a clause at its front, and what is told of it.
-use Rattle.std.proofs.Common.{◌≡◌, ℕ, zero, suc, ◌+◌, ◌-◌, ◌<◌, ◌≤◌, Bool, true, false, cond, ◌⊎◌, List, [], ◌∷◌, ◌++◌, length, get_or, take, drop, set, Some, None, Option, Result, sym, refl, ap, ◌∙◌, inl, inr, arith}
-use Rattle.std.proofs.lemmas.List.{length-append, length-take, length-drop, drop-set-lt, drop-drop, take_at}
+use Rattle.std.proofs.Common.{◌≡◌, ℕ, zero, suc, ◌+◌, ◌-◌, ◌<◌, ◌≤◌, Bool, true, false, cond, ◌⊎◌, List, [], ◌∷◌, ◌++◌, length, get_or, take, drop, set, Some, None, Option, Result, sym, refl, ap, ◌∙◌, ap₂, inl, inr, drop-cons, add-one, arith}
+use Rattle.std.proofs.lemmas.List.{length-append, length-take, length-drop, length_push, drop-set-lt, drop-drop, take_at}
 use Rattle.std.proofs.lemmas.Slice.{drop-append-drop}
+use Rattle.std.proofs.Math.Seq.{append_snoc, set-append_seam}
 use Rattle.std.proofs.lemmas.Bool.{cond-true, cond-false, eq-eqb, le-leb, ne_eqb}
 use Rattle.base.specs.declared.faults.Cause.{Cause}
 use Rattle.clauses.specs.declared.clause.Found.{Found}
@@ -40,6 +41,13 @@ module _ {X : Type 0} (c was : List X) where
   -- a longer clause written over it leaves nothing of it
   pub over_over : (d : List X) → length c ≤ length d → over d (over c was) ≡ over d was
   over_over d h = ap (λ l. d ++ l) (drop-append-drop (length c) was c (length d) h refl)
+
+-- one literal more is written behind the clause
+pub over_more : {X : Type 0} (c was : List X) (n : ℕ) (x : X) → length c ≡ n → n < length was → set (over c was) n x ≡ over (c ++ x ∷ []) was
+over_more c was n x e inside =
+    ap₂ (λ i ys. set (c ++ ys) i x) (sym e) (drop-cons was (length c) x (omega arith))
+    ∙ set-append_seam c (get_or was (length c) x) (drop (suc (length c)) was) x
+    ∙ sym (append_snoc c x (drop (suc (length c)) was)) ∙ ap (λ k. c ++ x ∷ [] ++ drop k was) (sym (length_push c x ∙ add-one (length c)))
 
 -- joining makes no clause shorter
 module _ {X : Type 0} (like : X → X → Bool) (opposite : X → X) (except : Option X) where

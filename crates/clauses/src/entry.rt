@@ -1,5 +1,6 @@
 // Entries: literals as they are stored.
-ghost use Rattle.clauses.specs.Worlds.{same_entry, complement_entry};
+ghost use Rattle.std.specs.Prelude.{◌≡◌};
+ghost use Rattle.clauses.specs.Worlds.{entry_of, same_entry, complement_entry};
 ghost use Rattle.clauses.specs.EntryLaws.{same_itself, same_back, same_through};
 ghost use Rattle.clauses.specs.EntryLaws;
 
@@ -11,6 +12,18 @@ use base::values::ValueWord;
 pub struct Entry {
     pub code: u32,
     pub values: ValueWord,
+}
+
+impl Entry {
+    // The entry of a code, of which the lower four bytes are kept.
+    pub fn of(code: u64, values: ValueWord) -> Entry
+        ensures { result ≡ entry_of code values }
+    {
+        Entry {
+            code: (code % 4_294_967_296) as u32,
+            values,
+        }
+    }
 }
 
 impl Alike for Entry {

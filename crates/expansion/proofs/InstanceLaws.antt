@@ -10,7 +10,7 @@ use Rattle.formula.specs.declared.tables.Kind.{Kind}
 use Rattle.formula.specs.declared.tables.Kind.TheVariants as kind
 use Rattle.formula.specs.declared.tables.Literal.{Literal}
 use Rattle.formula.specs.declared.tables.Variable.{Variable}
-use Rattle.formula.specs.Groups.{is_universal, is_undeclared}
+use Rattle.formula.specs.Groups.{is_universal, is_existential, is_undeclared}
 use Rattle.clauses.specs.declared.entry.Entry.{Entry}
 use Rattle.clauses.specs.Worlds.{true_in}
 use Rattle.records.specs.declared.step.Premise.{Premise}
@@ -18,14 +18,13 @@ use Rattle.records.specs.declared.step.Premise.TheVariants as premise
 use Rattle.spelling.specs.Dqbf.{Declaration, Dqbf, Lawful, member, record_of}
 use Rattle.spelling.proofs.PrefixLaws.{variables_of, place_universal}
 use Rattle.spelling.proofs.ProperWords.{no_ok}
-use Rattle.audit.proofs.FormulaOwners.{is_existential}
 use Rattle.audit.proofs.FormulaPlaces.{existential_place}
 use Rattle.models.specs.CircuitValues.{existential_at}
 use Rattle.models.specs.HeldTables.{RowsOfFormula, record_at, clause_of}
 use Rattle.models.specs.Models.{Assignment, Functions, signed, universal_at, literal_value, clause_value, Agree, DependsOnAllowed, IsModel}
 use Rattle.models.proofs.HeldLaws.{clause_held, clause_short, literals_declared, record_declared, kind_declared}
 use Rattle.models.proofs.ValueLaws.{value_universal, value_existential, existential_declared}
-use Rattle.expansion.specs.Instances.{existential_code, annotated, true_universal, some_universal_true, instance, falsity_claim}
+use Rattle.expansion.specs.Instances.{annotated, true_universal, some_universal_true, instance, falsity_claim}
 use Rattle.expansion.specs.ModelWorlds.{Model, assignment_by, function_value, model_world, HoldsInModels}
 use Rattle.expansion.proofs.ClaimLaws.{claimed}
 
@@ -34,13 +33,13 @@ abbrev annotated_by : Kind → Variable → Bool → ValueWord → Option Entry
 annotated_by k x negative values = cond (is_existential k) (Some (annotated x negative values)) None
 
 -- the code of a lawful position says the position and the sign
-code_half : (k : ℕ) (negative : Bool) → k ≤ 4096 → existential_code k negative / 2 ≡ k
-code_half k true h = omega arith
-code_half k false h = omega arith
+code_half : (x : Variable) (negative : Bool) (values : ValueWord) → x.position ≤ 4096 → (annotated x negative values).code / 2 ≡ x.position
+code_half x true values h = omega arith
+code_half x false values h = omega arith
 
-code_parity : (k : ℕ) (negative : Bool) → eqb (existential_code k negative % 2) 1 ≡ negative
-code_parity k true = eq-eqb (existential_code k true % 2) 1 (omega arith)
-code_parity k false = ne_eqb (existential_code k false % 2) 1 (λ e. omega arith)
+code_parity : (x : Variable) (negative : Bool) (values : ValueWord) → eqb ((annotated x negative values).code % 2) 1 ≡ negative
+code_parity x true values = eq-eqb ((annotated x true values).code % 2) 1 (omega arith)
+code_parity x false values = ne_eqb ((annotated x false values).code % 2) 1 (λ e. omega arith)
 
 module _ {f : Dqbf} (lawful : Lawful f) (values : ValueWord) where
   -- the values of a set of dependencies alone agree with all values on that set
@@ -61,8 +60,8 @@ module _ {f : Dqbf} (lawful : Lawful f) (values : ValueWord) where
         let few : x.position ≤ 4096 = omega (arith, lawful.few_existentials) in
         let τ : Assignment = assignment_by f.prefix (common_word values x.dependencies) in
         let same : F v τ ≡ F v (assignment_by f.prefix values) = existential_declared (DependsOnAllowed f.prefix F) f.prefix v is model.allowed τ (assignment_by f.prefix values) (agree_common x.dependencies) in
-        ap (λ (k : ℕ). signed (eqb (existential_code x.position negative % 2) 1) (F (existential_at f.prefix k) τ)) (code_half x.position negative few)
-        ∙ ap (λ (b : Bool). signed b (F (existential_at f.prefix x.position) τ)) (code_parity x.position negative)
+        ap (λ (k : ℕ). signed (eqb ((annotated x negative values).code % 2) 1) (F (existential_at f.prefix k) τ)) (code_half x negative values few)
+        ∙ ap (λ (b : Bool). signed b (F (existential_at f.prefix x.position) τ)) (code_parity x negative values)
         ∙ ap (λ (y : ℕ). signed negative (F y τ)) stands
         ∙ ap (signed negative) same
 

@@ -1,10 +1,10 @@
 -- A row into which items are written from the front, by their numbers.
-use Rattle.std.proofs.Common.{◌≡◌, ℕ, suc, ◌+◌, ◌<◌, List, [], ◌∷◌, ◌++◌, map, length, get_or, drop, set, refl, sym, ap, ◌∙◌, drop-cons, add-one, zero-add, arith}
+use Rattle.std.proofs.Common.{◌≡◌, ℕ, ◌+◌, ◌<◌, List, [], ◌∷◌, ◌++◌, map, length, get_or, set, refl, sym, ap, ◌∙◌, zero-add, arith}
 use Rattle.std.specs.List.{enumerate_from}
-use Rattle.std.proofs.lemmas.List.{length-map, length_push, map-append, map-id}
+use Rattle.std.proofs.lemmas.List.{length-map, map-append, map-id}
 use Rattle.std.proofs.lemmas.List.FromFn.{get_or-enumerate_from, length-enumerate_from}
-use Rattle.std.proofs.Math.Seq.{append_snoc, set-append_seam}
 use Rattle.clauses.specs.Clauses.{over}
+use Rattle.clauses.proofs.RowLaws.{over_more}
 
 module _ {X : Type 0} where
   -- items without their numbers
@@ -22,16 +22,10 @@ module _ {X : Type 0} where
       (inside, ap (λ q. q.0) (h.1 ∙ get_or-enumerate_from 0 all (length ps) p inside) ∙ zero-add (length ps))
 
   -- one item more
-  over_more : (xs was : List X) (x : X) → length xs < length was → set (over xs was) (length xs) x ≡ over (xs ++ x ∷ []) was
-  over_more xs was x inside =
-      ap (λ ys. set (xs ++ ys) (length xs) x) (drop-cons was (length xs) x inside) ∙ set-append_seam xs (get_or was (length xs) x) (drop (suc (length xs)) was) x
-      ∙ sym (append_snoc xs x (drop (suc (length xs)) was)) ∙ ap (λ n. xs ++ x ∷ [] ++ drop n was) (sym (length_push xs x ∙ add-one (length xs)))
-
   pub written_more : (row was : List X) (ps : List (ℕ × X)) (p : ℕ × X) → p.0 ≡ length ps → length ps < length was → row ≡ over (items ps) was → set row p.0 p.1 ≡ over (items (ps ++ p ∷ [])) was
   written_more row was ps p e inside w =
-      let n : length (items ps) ≡ length ps = length-map ps (λ p. p.1) in
-      ap (λ i. set row i p.1) (e ∙ sym n) ∙ ap (λ r. set r (length (items ps)) p.1) w
-      ∙ over_more (items ps) was p.1 (omega arith) ∙ ap (λ xs. over xs was) (sym (map-append (λ p. p.1) ps (p ∷ [])))
+      ap (λ r. set r p.0 p.1) w ∙ over_more (items ps) was p.0 p.1 (length-map ps (λ p. p.1) ∙ sym e) (omega arith)
+      ∙ ap (λ xs. over xs was) (sym (map-append (λ p. p.1) ps (p ∷ [])))
 
   -- all of them
   pub written_all : (row was all : List X) (ps : List (ℕ × X)) → map (λ p. (p.0, p.1)) ps ≡ enumerate_from 0 all → row ≡ over (items ps) was → row ≡ over all was

@@ -1,26 +1,23 @@
 -- The falsity side: the clauses of a formula under a word of values, by expansion of the universals.
-use Rattle.std.specs.Prelude.{ℕ, ◌+◌, ◌*◌, ◌%◌, Bool, true, false, cond, ◌&&◌, List, Some, None, Ok, Err, Option, Result, filter_map, nat_le}
+use Rattle.std.specs.Prelude.{ℕ, ◌+◌, ◌*◌, Bool, true, false, cond, ◌&&◌, List, Some, None, Ok, Err, Option, Result, filter_map, nat_le}
 use Rattle.std.specs.List.{list_any}
 use Rattle.base.specs.declared.values.ValueWord.{ValueWord}
 use Rattle.base.specs.Causes.{Refusal, refused}
 use Rattle.base.specs.Words.{has_bit, first_word, common_word, within_word}
 use Rattle.formula.specs.declared.tables.Literal.{Literal}
 use Rattle.formula.specs.declared.tables.Variable.{Variable}
+use Rattle.formula.specs.Groups.{is_universal, is_existential}
 use Rattle.clauses.specs.declared.entry.Entry.{Entry}
+use Rattle.clauses.specs.Worlds.{entry_of}
 use Rattle.records.specs.declared.step.Premise.{Premise}
 use Rattle.records.specs.declared.step.Premise.TheVariants as premise
-use Rattle.audit.proofs.FormulaOwners.{is_existential}
-use Rattle.formula.specs.Groups.{is_universal}
 use Rattle.models.specs.HeldTables.{RowsOfFormula, lawful_formula, record_at, clause_of}
 use Rattle.models.specs.Models.{signed}
 
--- the code of the k-th existential or its negation: 2k or 2k + 1 (codes have four bytes, which no lawful formula passes)
-abbrev pub existential_code : ℕ → Bool → ℕ
-existential_code k negative = (2 * k + cond negative 1 0) % 4294967296
-
--- an existential literal under a word of values: its annotation has the values of the existential's dependencies alone
+-- The k-th existential under a word of values, or its negation: code 2k or 2k + 1 (codes have four bytes, which no lawful
+-- formula passes), and its annotation has the values of the existential's dependencies alone.
 abbrev pub annotated : Variable → Bool → ValueWord → Entry
-annotated x negative values = record { code = existential_code x.position negative; values = common_word values x.dependencies }
+annotated x negative values = entry_of (2 * x.position + cond negative 1 0) (common_word values x.dependencies)
 
 -- whether a literal is universal and true under a word of values
 abbrev pub true_universal : List Variable → ValueWord → Literal → Bool

@@ -57,10 +57,8 @@ impl<'a> Expansion<'a> {
             return None;
         }
         let code = 2 * u64::from(variable.position) + u64::from(literal.negative);
-        Some(Entry {
-            code: (code % 4_294_967_296) as u32,
-            values: self.values.intersection(variable.dependencies),
-        })
+        let values = self.values.intersection(variable.dependencies);
+        Some(Entry::of(code, values))
     }
 
     // How many existential literals a clause has.

@@ -37,6 +37,11 @@ is_universal kind.Undeclared = false
 is_universal kind.Universal = true
 is_universal kind.Existential = false
 
+abbrev pub is_existential : Kind → Bool
+is_existential kind.Undeclared = false
+is_existential kind.Universal = false
+is_existential kind.Existential = true
+
 -- What is declared so far: how many universals and existentials, and the variables' records.
 pub record Declared : Type 0 where
   pub universals : ℕ

@@ -1,15 +1,8 @@
 -- A row that a list is copied to the front of, as far as there is room.
-use Rattle.std.proofs.Common.{◌≡◌, ℕ, suc, ◌+◌, ◌<◌, min, List, [], ◌∷◌, ◌++◌, map, length, get_or, take, drop, set, sym, ap, ◌∙◌, drop-cons, add-one, arith}
-use Rattle.std.proofs.lemmas.List.{length-map, length_push, length-take-le, map_more, take-map, take_min}
-use Rattle.std.proofs.Math.Seq.{append_snoc, set-append_seam}
+use Rattle.std.proofs.Common.{◌≡◌, ℕ, ◌+◌, ◌<◌, min, List, map, length, get_or, take, set, sym, ap, ◌∙◌, arith}
+use Rattle.std.proofs.lemmas.List.{length-map, length-take-le, map_more, take-map, take_min}
 use Rattle.clauses.specs.Clauses.{over}
-
-module _ {X : Type 0} where
-  -- one item more
-  over_more : (xs was : List X) (n : ℕ) (x : X) → length xs ≡ n → n < length was → set (over xs was) n x ≡ over (xs ++ x ∷ []) was
-  over_more xs was n x e inside =
-      ap (λ i. set (over xs was) i x) (sym e) ∙ ap (λ ys. set (xs ++ ys) (length xs) x) (drop-cons was (length xs) x (omega arith)) ∙ set-append_seam xs (get_or was (length xs) x) (drop (suc (length xs)) was) x
-      ∙ sym (append_snoc xs x (drop (suc (length xs)) was)) ∙ ap (λ n. xs ++ x ∷ [] ++ drop n was) (sym (length_push xs x ∙ add-one (length xs)))
+use Rattle.clauses.proofs.RowLaws.{over_more}
 
 module _ {X Y : Type 0} (f : X → Y) (xs : List X) (was : List Y) where
   -- the next item's image is written

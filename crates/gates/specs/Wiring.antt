@@ -1,7 +1,6 @@
 -- The truth side: the clauses that say what circuits compute, and the formula's clauses over their wires.
-use Rattle.std.specs.Prelude.{ℕ, ◌+◌, ◌-◌, ◌*◌, ◌/◌, ◌%◌, min, Bool, true, false, cond, not, ◌&&◌, List, [], ◌∷◌, map, filter_map, Some, None, Ok, Err, Option, Result, ◌==◌, nat_le, slice_index, slice_index_or}
+use Rattle.std.specs.Prelude.{ℕ, ◌+◌, ◌-◌, ◌*◌, ◌/◌, min, Bool, true, false, cond, not, ◌&&◌, List, [], ◌∷◌, map, filter_map, Some, None, Ok, Err, Option, Result, ◌==◌, nat_le, slice_index, slice_index_or}
 use Rattle.std.specs.List.{reduce}
-use Rattle.audit.proofs.FormulaOwners.{is_existential}
 use Rattle.base.specs.declared.values.ValueWord.{ValueWord}
 use Rattle.base.specs.Causes.{Refusal, refused}
 use Rattle.base.specs.Words.{empty_word, within_word}
@@ -10,16 +9,17 @@ use Rattle.formula.specs.declared.tables.Kind.{Kind}
 use Rattle.formula.specs.declared.tables.Kind.TheVariants as kind
 use Rattle.formula.specs.declared.tables.Literal.{Literal}
 use Rattle.formula.specs.declared.tables.Variable.{Variable}
+use Rattle.formula.specs.Groups.{is_existential}
 use Rattle.reach.specs.Reach.{wire_reach, reaches_table}
 use Rattle.clauses.specs.declared.entry.Entry.{Entry}
-use Rattle.clauses.specs.Worlds.{complement_entry}
+use Rattle.clauses.specs.Worlds.{entry_of, complement_entry}
 use Rattle.records.specs.declared.step.Premise.{Premise}
 use Rattle.records.specs.declared.step.Premise.TheVariants as premise
 use Rattle.models.specs.HeldTables.{RowsOfFormula, RowsOfCircuit, lawful_formula, lawful_circuit, record_at, clause_of}
 
 -- a literal of the side: code 2w for wire w, 2w + 1 for its negation (codes have four bytes, which no lawful tables pass)
 abbrev pub wire_entry : ℕ → Entry
-wire_entry code = record { code = code % 4294967296; values = empty_word }
+wire_entry code = entry_of code empty_word
 
 abbrev pub not_entry : ℕ → Entry
 not_entry code = complement_entry (wire_entry code)

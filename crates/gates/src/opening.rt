@@ -8,12 +8,10 @@ ghost use Rattle.gates.specs.Wiring.{output_reach, leaving, lowest_leaving, gate
 use super::wiring::output_literal;
 use base::faults::{Cause, Fault, Layer};
 use base::values::ValueWord;
+use circuit::tables::MAX_WIRES;
 use formula::tables::{Kind, Variable};
 use models::tables::{CircuitTables, FormulaTables};
 use reach::{fill_reaches, wire_reach};
-
-// The most gates that a circuit has.
-const GATES: usize = 60_000;
 
 // A circuit with a table of what each of its gates reads.
 #[derive(Clone, Copy, Drop)]
@@ -57,7 +55,8 @@ impl<'a> Reached<'a> {
 fn lowest_too_wide(circuit: &CircuitTables, variables: &[Variable]) -> Option<u32>
     ensures { result ≡ lowest_leaving (circuit_rows circuit.now) (gate_reaches (circuit_rows circuit.now)) variables.now }
 {
-    let mut reaches = [ValueWord::empty(); GATES];
+    // A circuit has no more gates than wires.
+    let mut reaches = [ValueWord::empty(); MAX_WIRES as usize];
     fill_reaches(circuit.head, circuit.gates, &mut reaches);
     let reached = Reached {
         circuit,

@@ -11,14 +11,11 @@ use clauses::entry::Entry;
 use clauses::literal::Literal;
 use models::tables::CircuitTables;
 
-// The entry of a code, of which the lower four bytes are kept.
+// The entry of a literal of the wires, by its code; it has no values.
 pub(crate) fn wire_entry(code: u64) -> Entry
     ensures { result ≡ wire_entry code }
 {
-    Entry {
-        code: (code % 4_294_967_296) as u32,
-        values: ValueWord::empty(),
-    }
+    Entry::of(code, ValueWord::empty())
 }
 
 // Its complement.
