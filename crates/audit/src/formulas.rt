@@ -6,18 +6,21 @@ ghost use Rattle.audit.specs.FormulaAudit.{head_lawful, free, owns, all_owned, v
 use super::all_are;
 use base::values::ValueWord;
 use formula::marks::Marks;
-use formula::tables::{Clause, Head, Kind, Literal, Variable};
+use formula::tables::{
+    Clause, Head, Kind, Literal, MAX_CLAUSES, MAX_EXISTENTIALS, MAX_LITERALS, MAX_UNIVERSALS,
+    MAX_VARIABLES, Variable,
+};
 
 fn lawful_head(head: Head, variables: usize, clauses: usize) -> bool
     ensures { result ≡ head_lawful head variables clauses }
 {
     head.variables >= 1
-        && head.variables <= 65_535
+        && head.variables <= MAX_VARIABLES
         && head.variables as usize <= variables
-        && head.clauses <= 16_384
+        && head.clauses <= MAX_CLAUSES
         && head.clauses as usize <= clauses
-        && head.universals <= 64
-        && head.existentials <= 4_096
+        && head.universals <= MAX_UNIVERSALS
+        && head.existentials <= MAX_EXISTENTIALS
 }
 
 // The variable that has each position among the universals and among the existentials. No variable has number 0, so
@@ -127,7 +130,7 @@ fn lawful_clauses(head: Head, vars: &[Variable], clauses: &[Clause], literals: &
     let mut marks = Marks::new();
     let mut at = 0;
     for clause in used {
-        if clause.first as usize != at || clause.len > 1_024 {
+        if clause.first as usize != at || clause.len as usize > MAX_LITERALS {
             return false;
         }
         let Some(named) = literals[at..].get(..clause.len as usize) else {

@@ -58,7 +58,8 @@ fn lay_gate_clause(a: u64, r: u64, s: u64, part: u8, row: &mut [Entry]) -> Resul
     }
 }
 
-// Lays a clause of a gate, by its number from 1. A gate has two right literals and three clauses, an output one and two.
+// Lays a clause of a gate, by its number from 1. It is no one with `lay_output`: a gate has two right literals and three
+// clauses, an output one literal and two clauses.
 fn lay_gate(circuit: &CircuitTables, gate: u16, part: u8, row: &mut [Entry]) -> Result<usize, Cause>
     ensures { Laid (gate_claim (circuit_rows circuit.now) gate part) result row.old row.new }
 {

@@ -43,7 +43,7 @@ pub(crate) fn number_of(word: &[u8]) -> Option<u32>
     if matches!(word, [] | [b'0', _, ..]) || word.len() > 9 {
         return None;
     }
-    // A loop: that the value fits is a fact about how many digits were read.
+    // A loop: with `try_fold` a proof does not see that the value fits, a fact about how many digits were read.
     let mut n = 0;
     for b in word {
         n = n * 10 + char::from(*b).to_digit(10)?;

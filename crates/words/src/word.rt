@@ -56,7 +56,7 @@ fn classify(word: &[u8], place: usize) -> Word
     }
 }
 
-// The next word, with the place moved to its end; none, and the place stays, where only blanks are left.
+// The next word, with the place moved to its end; none where only blanks are left.
 pub fn take_word<'a>(text: &'a [u8], place: &mut Place) -> Option<Word<'a>>
     ensures is { words_from text.now place.old.at ≡ listed (option_map seen result) (words_from text.now place.new.at) }
     ensures onward { Onward (option_map seen result) place.old.at place.new.at (length text.now) }
