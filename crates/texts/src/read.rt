@@ -21,7 +21,7 @@ pub fn formula_rows(heap: Global, text: &[u8]) -> Result<Result<FormulaRows, Fau
     let mut variables = vec![in heap; Variable::default(); 65_535]?;
     let mut clauses = vec![in heap; Clause::default(); 16_384]?;
     let mut literals = vec![in heap; Literal::default(); text.len() / 2]?;
-    let mut place = Place { at: 0 };
+    let mut place = Place::default();
     // A match: a proof cannot name what a closure that takes the rows returns.
     match read_formula(
         text,
@@ -47,7 +47,7 @@ pub fn circuit_rows(heap: Global, text: &[u8]) -> Result<Result<CircuitRows, Fau
 {
     let mut outputs = vec![in heap; 0u32; 4_096]?;
     let mut gates = vec![in heap; Gate::default(); 60_000]?;
-    let mut place = Place { at: 0 };
+    let mut place = Place::default();
     // A match: a proof cannot name what a closure that takes the rows returns.
     match read_circuit(
         text,
