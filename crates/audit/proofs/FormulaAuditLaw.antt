@@ -11,14 +11,13 @@ use Rattle.formula.specs.declared.tables.Clause.{Clause}
 use Rattle.formula.specs.declared.tables.Head.{Head}
 use Rattle.formula.specs.declared.tables.Literal.{Literal}
 use Rattle.formula.specs.declared.tables.Variable.{Variable}
-use Rattle.formula.specs.Groups.{no_variable, variable_at, is_undeclared, is_universal}
+use Rattle.formula.specs.Groups.{no_variable, variable_at, is_undeclared, is_universal, is_existential}
 use Rattle.formula.specs.Reading.{no_span, no_literal}
 use Rattle.spelling.specs.Dqbf.{Declaration, Dqbf, Lawful, LawfulClause, member, universals_of, existentials_of, record_of}
 use Rattle.spelling.proofs.ProperWords.{words_proper}
 use Rattle.spelling.proofs.PrefixLaws.{LawfulPrefix, variables_of, record_undeclared, prefix_lawful}
 use Rattle.spelling.proofs.FormulaLaws.{FormulaWasRead, parts_sound, parts_complete}
 use Rattle.audit.specs.FormulaAudit.{head_lawful, variables_lawful, clauses_lawful, formula_lawful, LeavesFormula, LeftByAFormulaText}
-use Rattle.audit.proofs.FormulaOwners.{is_existential}
 use Rattle.audit.proofs.FormulaVariables.{Variables, decides_variables}
 use Rattle.audit.proofs.FormulaPrefix.{prefix_universals, prefix_existentials, listed_distinct, listed_range, held_prefix, held_records, held_lawful, held_positions}
 use Rattle.audit.proofs.FormulaPlaces.{declared_all}

@@ -10,7 +10,7 @@ use Rattle.formula.specs.declared.tables.Kind.{Kind}
 use Rattle.formula.specs.declared.tables.Kind.TheVariants as kind
 use Rattle.formula.specs.declared.tables.Variable.{Variable}
 use Rattle.formula.specs.Groups.{no_variable, is_universal}
-pub use Rattle.formula.specs.Groups.{is_existential}
+use Rattle.formula.specs.Groups.{is_existential}
 use Rattle.audit.specs.declared.formulas.Owners.{Owners}
 use Rattle.audit.specs.FormulaAudit.{owners, free, owns, owns_by, records_own}
 use Rattle.words.proofs.TableLaws.{get_or_zeros}

@@ -10,11 +10,11 @@ use Rattle.formula.specs.declared.tables.Head.{Head}
 use Rattle.formula.specs.declared.tables.Kind.{Kind}
 use Rattle.formula.specs.declared.tables.Kind.TheVariants as kind
 use Rattle.formula.specs.declared.tables.Variable.{Variable}
-use Rattle.formula.specs.Groups.{no_variable, variable_at, is_universal}
+use Rattle.formula.specs.Groups.{no_variable, variable_at, is_universal, is_existential}
 use Rattle.spelling.proofs.PrefixLaws.{Stands}
 use Rattle.audit.specs.declared.formulas.Owners.{Owners}
 use Rattle.audit.specs.FormulaAudit.{owners, free, owns_by, records_own, all_owned, undeclared_all, variables_lawful}
-use Rattle.audit.proofs.FormulaOwners.{is_existential, Owner, Table, PlainBy, Plain, Owned, owned_start, Says, owned_all, own_all}
+use Rattle.audit.proofs.FormulaOwners.{Owner, Table, PlainBy, Plain, Owned, owned_start, Says, owned_all, own_all}
 
 -- a test that each entry passes
 pub each_passes : {X : Type 0} (test : X → Bool) (xs : List X) → Decides (list_all test xs) (AllByRecursion (λ x. test x ≡ true) xs)

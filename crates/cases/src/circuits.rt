@@ -287,7 +287,7 @@ fn long_circuits(rt: HostRuntime) -> Result<(), Fail> {
 // The tables of two gates, the second of which reads the first.
 #[test]
 fn tables_of_a_circuit(rt: HostRuntime) {
-    let mut place = Place { at: 0 };
+    let mut place = Place::default();
     let mut outputs = [0; 2];
     let mut gates = [Gate::default(); 2];
     assert!(rt;

@@ -545,7 +545,7 @@ fn long_formulas(rt: HostRuntime) -> Result<(), Fail> {
 // The tables of a formula whose existential, variable 2, has to equal its universal, variable 1.
 #[test]
 fn tables_of_a_formula(rt: HostRuntime) {
-    let mut place = Place { at: 0 };
+    let mut place = Place::default();
     let mut variables = [Variable::default(); 2];
     let mut clauses = [Clause::default(); 2];
     let mut literals = [Literal::default(); 4];

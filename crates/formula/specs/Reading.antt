@@ -3,7 +3,7 @@ use Rattle.std.specs.Prelude.{◌≡◌, ℕ, Bool, false, cond, ◌||◌, List,
 use Rattle.base.specs.declared.faults.Fault.{Fault}
 use Rattle.base.specs.Causes.{Refusal, refused, answered}
 use Rattle.words.specs.Words.{Spelt, words_from}
-use Rattle.words.specs.Due.{Got, and_then, number_from, name_from}
+use Rattle.words.specs.Due.{Got, and_then, number_from, name_from, unless_long}
 use Rattle.words.specs.Tables.{padded}
 use Rattle.formula.specs.declared.tables.Clause.{Clause}
 use Rattle.formula.specs.declared.tables.Head.{Head}
@@ -55,7 +55,7 @@ parts_from ws variable_room clause_room literal_room size =
 -- the formula that a text spells from a place on, for tables of these lengths
 abbrev pub formula_from : List ℕ → ℕ → ℕ → ℕ → ℕ → Result Formula Refusal
 formula_from text place variable_room clause_room literal_room =
-    cond (nat_lt 16777216 (length text)) (Err (refused 1 0 1)) (parts_from (words_from text place) variable_room clause_room literal_room (length text))
+    unless_long (length text) (parts_from (words_from text place) variable_room clause_room literal_room (length text))
 
 abbrev pub head_read : Result Formula Refusal → Result Head Refusal
 head_read (Ok f) = Ok f.head

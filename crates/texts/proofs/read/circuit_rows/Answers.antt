@@ -1,4 +1,4 @@
-use Rattle.std.proofs.Common.{Ok, sym, ap, ◌∙◌, subst, ap₂}
+use Rattle.std.proofs.Common.{Ok, sym, ap, ◌∙◌, rules, subst, ap₂}
 use Rattle.std.proofs.lemmas.List.{with_items_is}
 use Rattle.models.specs.HeldTables.{RowsOfCircuit}
 use Rattle.texts.specs.Spelled.{ReadsCircuit}
@@ -12,7 +12,6 @@ returns-in-Ok c =
     let os = c.read_circuit.new.outputs in
     let gs = c.read_circuit.new.gates in
     let place = c.read_circuit.new.place.at in
-    let start = c.default-place.ensures in
     let os-long = c.as_mut_slice.ensures.len in
     let gs-long = c.as_mut_slice-2.ensures.len in
     let same =
@@ -20,8 +19,8 @@ returns-in-Ok c =
     (with_items_is c.in_ok-gates.gates gs (c.read_circuit.auto.gates ∙ gs-long)) in
     record {
       is = ap Ok same
-          ∙ accepted_rows text _ _ os gs place (os-long ∙ c.in_ok-outputs.ensures.len) (gs-long ∙ c.in_ok-gates.ensures.len) head (rw start at c.in-Ok.ensures.is);
-      spelt = subst (λ (t : RowsOfCircuit). ReadsCircuit text (Ok t)) (sym same) (accepted_reads text os gs place head (rw start at c.in-Ok.ensures.spelt));
+          ∙ accepted_rows text _ _ os gs place (os-long ∙ c.in_ok-outputs.ensures.len) (gs-long ∙ c.in_ok-gates.ensures.len) head (search rules);
+      spelt = subst (λ (t : RowsOfCircuit). ReadsCircuit text (Ok t)) (sym same) (accepted_reads text os gs place head (search rules));
     }
 
 pub returns-in-Err : goal.returns-in-Err
@@ -31,10 +30,9 @@ returns-in-Err c =
     let os = c.read_circuit.new.outputs in
     let gs = c.read_circuit.new.gates in
     let place = c.read_circuit.new.place.at in
-    let start = c.default-place.ensures in
     let os-long = c.as_mut_slice.ensures.len ∙ c.in_ok-outputs.ensures.len in
     let gs-long = c.as_mut_slice-2.ensures.len ∙ c.in_ok-gates.ensures.len in
     record {
-      is = refused_rows text _ _ os gs place os-long gs-long fault (rw start at c.in-Err.ensures.is);
-      spelt = refused_reads text os gs place fault (c.read_circuit.auto.outputs ∙ os-long) (c.read_circuit.auto.gates ∙ gs-long) (rw start at c.in-Err.ensures.spelt);
+      is = refused_rows text _ _ os gs place os-long gs-long fault (search rules);
+      spelt = refused_reads text os gs place fault (c.read_circuit.auto.outputs ∙ os-long) (c.read_circuit.auto.gates ∙ gs-long) (rw c.default-place.ensures at c.in-Err.ensures.spelt);
     }

@@ -1,4 +1,4 @@
-use Rattle.std.proofs.Common.{Ok, sym, ap, ◌∙◌, subst}
+use Rattle.std.proofs.Common.{Ok, sym, ap, ◌∙◌, rules, subst}
 use Rattle.std.proofs.lemmas.List.{with_items_is}
 use Rattle.formula.specs.Reading.{Tables}
 use Rattle.models.specs.HeldTables.{RowsOfFormula}
@@ -29,7 +29,6 @@ pub returns-in-Ok : goal.returns-in-Ok
 returns-in-Ok c =
     let text = c.args.text.now in
     let head = c.in-Ok.head in
-    let start = c.default-place.ensures in
     let place = c.read_formula.new.place.at in
     let r = (goal.at.returns-in-Ok c).After-read_formula in
     let same =
@@ -38,18 +37,17 @@ returns-in-Ok c =
     (with_items_is c.in_ok-clauses.clauses c.read_formula.new.clauses (c.read_formula.auto.clauses ∙ c.as_mut_slice-2.ensures.len))
     (with_items_is c.in_ok-literals.literals c.read_formula.new.literals (c.read_formula.auto.literals ∙ c.as_mut_slice-3.ensures.len)) in
     record {
-      is = ap Ok same ∙ accepted_rows text (was r) (is r) place (lent r) head (rw start at c.in-Ok.ensures.is);
-      spelt = subst (λ (t : RowsOfFormula). ReadsFormula text (Ok t)) (sym same) (accepted_reads text (is r) place head (rw start at c.in-Ok.ensures.spelt));
+      is = ap Ok same ∙ accepted_rows text (was r) (is r) place (lent r) head (search rules);
+      spelt = subst (λ (t : RowsOfFormula). ReadsFormula text (Ok t)) (sym same) (accepted_reads text (is r) place head (search rules));
     }
 
 pub returns-in-Err : goal.returns-in-Err
 returns-in-Err c =
     let text = c.args.text.now in
     let fault = c.in-Err.fault in
-    let start = c.default-place.ensures in
     let place = c.read_formula.new.place.at in
     let r = (goal.at.returns-in-Err c).After-read_formula in
     record {
-      is = refused_rows text (was r) (is r) place (lent r) fault (rw start at c.in-Err.ensures.is);
-      spelt = refused_reads text (was r) (is r) place (lent r) fault (rw start at c.in-Err.ensures.spelt);
+      is = refused_rows text (was r) (is r) place (lent r) fault (search rules);
+      spelt = refused_reads text (was r) (is r) place (lent r) fault (search rules);
     }
