@@ -169,7 +169,8 @@ fn read_into(
     Ok(head)
 }
 
-// The tables are lent each by itself: of a struct of references each contract would also have to say that they stay.
+// Fills the tables with zeros. They are lent each by itself: of a struct of references each contract would also have to
+// say that they stay.
 fn clear(outputs: &mut [u32], gates: &mut [Gate])
     ensures outputs { outputs.new ≡ replicate (length outputs.old) 0 }
     ensures gates { gates.new ≡ replicate (length gates.old) no_gate }

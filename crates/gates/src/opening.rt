@@ -51,7 +51,8 @@ impl<'a> Reached<'a> {
     }
 }
 
-// The same, with the reaches of the circuit's gates. They stand in a local array: a call of a case asks for no memory.
+// The lowest output that reads an input outside its existential's dependencies. The reaches stand in a local array, since a
+// call of a case asks for no memory.
 fn lowest_too_wide(circuit: &CircuitTables, variables: &[Variable]) -> Option<u32>
     ensures { result ≡ lowest_leaving (circuit_rows circuit.now) (gate_reaches (circuit_rows circuit.now)) variables.now }
 {

@@ -58,8 +58,8 @@ fn lay_gate_clause(a: u64, r: u64, s: u64, part: u8, row: &mut [Entry]) -> Resul
     }
 }
 
-// Lays a clause of a gate, by its number from 1. It is no one with `lay_output`: a gate has two right literals and three
-// clauses, an output one literal and two clauses.
+// Lays a clause of a gate, by its number from 1. An output (`lay_output`) differs: it has one literal and
+// two clauses, a gate two right literals and three clauses.
 fn lay_gate(circuit: &CircuitTables, gate: u16, part: u8, row: &mut [Entry]) -> Result<usize, Cause>
     ensures { Laid (gate_claim (circuit_rows circuit.now) gate part) result row.old row.new }
 {
@@ -83,7 +83,7 @@ fn lay_output_clause(e: u64, o: u64, part: u8, row: &mut [Entry]) -> Result<usiz
     }
 }
 
-// The literal of an output, by its index; 0 where the table is shorter.
+// The literal of an output, by its index; 0, as in the table's free entries, where the table is shorter.
 pub(crate) fn output_literal(outputs: &[u32], index: usize) -> u32
     ensures { result ≡ slice_index outputs.now index }
 {

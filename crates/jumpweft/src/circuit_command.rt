@@ -12,6 +12,7 @@ use std::io;
 use std::io::{BufWriter, Write};
 use words::place::Place;
 
+// The tables of a circuit, of the lengths that the options give; a formula's have other columns.
 #[derive(Drop)]
 struct Tables {
     outputs: Vec<u32>,

@@ -11,6 +11,7 @@ use std::io::{BufWriter, Write};
 use words::place::Place;
 use words::word::LONGEST_TEXT;
 
+// The tables of a formula, of the lengths that the options give; a circuit's have other columns.
 #[derive(Drop)]
 struct Tables {
     variables: Vec<Variable>,

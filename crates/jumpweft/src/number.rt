@@ -8,6 +8,7 @@ where
     T::try_from(plain_number(word)?).ok()
 }
 
+// Digits alone: `parse` would take a `+` too.
 fn plain_number(word: &[u8]) -> Option<u64> {
     if word.is_empty() {
         return None;

@@ -165,7 +165,7 @@ fn print_clause<F: Shelf>(rt: &HostRuntime, shelf: &F, number: u32) -> Result<()
     }
     let mut out = BufWriter::new(rt.alloc(), rt.stdout())?;
     write!(out, "clause {number}:")?;
-    // An index: the shelf tells one entry at a time.
+    // An index: entry by entry no row is needed to copy the clause to.
     for i in 0..shelf.length(number) {
         let entry = shelf.entry(number, i);
         write!(out, " {}:{:016x}", entry.code, entry.values.bits)?;

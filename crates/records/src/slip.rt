@@ -57,10 +57,9 @@ impl Slip {
     }
 }
 
-// The most clauses that a shelf holds.
+// The most clauses and the most goals of a slip: limits of the format, which knows neither shelves nor formulas.
 const MOST_CLAUSES: u32 = 1_000_000;
 
-// The most goals that a case has.
 const MOST_GOALS: u32 = 16_384;
 
 // The slip's sixteen bytes.

@@ -9,7 +9,7 @@ pub struct Numeral {
     pub value: u32,
 }
 
-// Blanks are space, tab, carriage return and line feed. (With `matches!` the readers are slower by a fifth.)
+// Blanks are space, tab, carriage return and line feed.
 pub(crate) fn is_blank(b: u8) -> bool
     ensures { result ≡ blank b }
 {
