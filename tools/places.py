@@ -27,6 +27,7 @@ PATTERNS = {
         ("while", r"\bwhile "),
         ("loop", r"\bloop \{"),
         ("counted by hand", r"\+= 1;|-= 1;"),
+        ("by number with enumerate", r"\.enumerate\(\)"),
         ("loops that look for a first or for all", r"^\s+for \w+ in [^.]*\{$"),
     ],
     4: [
