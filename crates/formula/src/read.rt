@@ -20,7 +20,8 @@ pub mod groups;
 // The record of v, where v is one of these variables, which are numbered from 1.
 pub(crate) fn variable(vars: &[Variable], v: u32) -> Option<Variable>
     ensures is { result ≡ variable_in vars.now v }
-    ensures within { OnSome result ((0 < v) × (v ≤ length vars.now)) }
+    ensures above { OnSome result (0 < v) }
+    ensures within { OnSome result (v ≤ length vars.now) }
 {
     vars.get((v as usize).checked_sub(1)?).copied()
 }
