@@ -5,6 +5,7 @@ ghost use Rattle.audit.specs.FormulaAudit.{head_lawful, free, owns, all_owned, v
 
 use super::all_are;
 use base::values::ValueWord;
+use formula::lookup::variable;
 use formula::marks::Marks;
 use formula::tables::{
     Clause, Head, Kind, Literal, MAX_CLAUSES, MAX_EXISTENTIALS, MAX_LITERALS, MAX_UNIVERSALS,
@@ -107,10 +108,7 @@ fn lawful_clause(declared: &[Variable], marks: &mut Marks, literals: &[Literal])
     marks.next_clause();
     for literal in literals {
         let v = literal.variable;
-        if v == 0 || v as usize > declared.len() {
-            return false;
-        }
-        if declared[v as usize - 1].kind == Kind::Undeclared || marks.has(v) {
+        if variable(declared, v).is_none_or(|x| x.kind == Kind::Undeclared) || marks.has(v) {
             return false;
         }
         marks.add(v);

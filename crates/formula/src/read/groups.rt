@@ -5,8 +5,8 @@ ghost use Rattle.words.specs.Due.{Further};
 ghost use Rattle.base.specs.Causes.{answered};
 ghost use Rattle.formula.specs.Groups.{fresh, declared, add_in, add_dependency, group_in, inside, followed, groups_at, Begins, nothing_declared, Where};
 
+use super::super::lookup::variable;
 use super::super::tables::{Kind, MAX_EXISTENTIALS, MAX_UNIVERSALS, Variable};
-use super::variable;
 use base::faults::{Cause, Fault, Layer};
 use base::values::ValueWord;
 use words::due::read_number;
