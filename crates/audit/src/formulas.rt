@@ -2,7 +2,7 @@
 ghost use Rattle.std.specs.Prelude.{◌≡◌, ◌+◌, ◌<◌, ◌≤◌, [], true, length, Decides, slice_set};
 ghost use Rattle.std.specs.Bool.{then_some};
 ghost use Rattle.formula.specs.declared.tables.TheConstants.{MAX_EXISTENTIALS, MAX_UNIVERSALS, MAX_VARIABLES};
-ghost use Rattle.audit.specs.FormulaAudit.{head_lawful, free, owns, all_owned, variables_lawful, clause_lawful, clauses_lawful, formula_lawful, LeftByAFormulaText};
+ghost use Rattle.audit.specs.FormulaAudit.{head_lawful, free, owns, all_owned, records_lawful, clause_lawful, spans_lawful, formula_lawful, LeftByAFormulaText};
 
 use super::all_are;
 use base::values::ValueWord;
@@ -80,13 +80,13 @@ fn has_owners(owners: &[u32]) -> bool
     owners.iter().all(|owner| *owner != 0)
 }
 
-fn lawful_variables(head: Head, vars: &[Variable]) -> bool
-    requires variables { head.variables ≤ length vars.now }
+// Whether the declared variables own their positions, one each, and the records behind them are free.
+fn lawful_variables(head: Head, declared: &[Variable], free: &[Variable]) -> bool
+    requires variables { length declared.now ≤ MAX_VARIABLES }
     requires universals { head.universals ≤ MAX_UNIVERSALS }
     requires existentials { head.existentials ≤ MAX_EXISTENTIALS }
-    ensures { result ≡ variables_lawful head vars.now }
+    ensures { result ≡ records_lawful head declared.now free.now }
 {
-    let (declared, free) = vars.split_at(head.variables as usize);
     let mut owners = Owners {
         universals: [0; MAX_UNIVERSALS as usize + 1],
         existentials: [0; MAX_EXISTENTIALS as usize + 1],
@@ -120,14 +120,15 @@ fn lawful_clause(declared: &[Variable], marks: &mut Marks, literals: &[Literal])
 }
 
 // Whether each clause is lawful and stands directly behind the one before, with zeros behind the last.
-fn lawful_clauses(head: Head, vars: &[Variable], clauses: &[Clause], literals: &[Literal]) -> bool
-    requires variables { head.variables ≤ length vars.now }
-    requires few_variables { head.variables ≤ MAX_VARIABLES }
-    requires clauses { head.clauses ≤ length clauses.now }
-    ensures { result ≡ clauses_lawful head vars.now clauses.now literals.now }
+fn lawful_clauses(
+    declared: &[Variable],
+    used: &[Clause],
+    free: &[Clause],
+    literals: &[Literal],
+) -> bool
+    requires variables { length declared.now ≤ MAX_VARIABLES }
+    ensures { result ≡ spans_lawful declared.now used.now free.now literals.now }
 {
-    let declared = &vars[..head.variables as usize];
-    let (used, free) = clauses.split_at(head.clauses as usize);
     let mut marks = Marks::new();
     let mut at = 0;
     // A loop, as above: each step moves the place in the literals and the marks.
@@ -156,7 +157,11 @@ pub fn audit_formula(
     ensures is { result ≡ formula_lawful head vars.now clauses.now literals.now }
     ensures lawful { Decides result (LeftByAFormulaText head vars.now clauses.now literals.now) }
 {
-    lawful_head(head, vars.len(), clauses.len())
-        && lawful_variables(head, vars)
-        && lawful_clauses(head, vars, clauses, literals)
+    if !lawful_head(head, vars.len(), clauses.len()) {
+        return false;
+    }
+    let (declared, free_vars) = vars.split_at(head.variables as usize);
+    let (used, free_clauses) = clauses.split_at(head.clauses as usize);
+    lawful_variables(head, declared, free_vars)
+        && lawful_clauses(declared, used, free_clauses, literals)
 }
