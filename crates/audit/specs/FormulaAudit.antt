@@ -55,11 +55,15 @@ undeclared x = is_undeclared x.kind && x.position == 0 && within_word x.dependen
 abbrev pub undeclared_all : List Variable → Bool
 undeclared_all xs = list_all undeclared xs
 
-abbrev pub variables_lawful : Head → List Variable → Bool
-variables_lawful h vs =
+-- the records of the declared variables, and those behind them
+abbrev pub records_lawful : Head → List Variable → List Variable → Bool
+records_lawful h declared free_records =
     option_map_or
-    (λ o. all_owned (take h.universals (drop 1 o.universals)) && all_owned (take h.existentials (drop 1 o.existentials)) && undeclared_all (drop h.variables vs))
-    (records_own h 1 (take h.variables vs) (owners (replicate 65 0) (replicate 4097 0))) false
+    (λ o. all_owned (take h.universals (drop 1 o.universals)) && all_owned (take h.existentials (drop 1 o.existentials)) && undeclared_all free_records)
+    (records_own h 1 declared (owners (replicate 65 0) (replicate 4097 0))) false
+
+abbrev pub variables_lawful : Head → List Variable → Bool
+variables_lawful h vs = records_lawful h (take h.variables vs) (drop h.variables vs)
 
 -- literals of declared variables, behind those of the clause that came before, none named twice
 abbrev pub clause_lawful : List Variable → List Literal → List Literal → Bool
@@ -87,9 +91,13 @@ zero_literal l = l.variable == 0 && not l.negative
 abbrev pub zero_literals : List Literal → Bool
 zero_literals ls = list_all zero_literal ls
 
+-- the spans of the clauses, and those behind them
+abbrev pub spans_lawful : List Variable → List Clause → List Clause → List Literal → Bool
+spans_lawful declared used free_spans ls =
+    option_map_or (λ end. zero_spans free_spans && zero_literals (drop end ls)) (spans_end declared 0 used ls) false
+
 abbrev pub clauses_lawful : Head → List Variable → List Clause → List Literal → Bool
-clauses_lawful h vs cs ls =
-    option_map_or (λ end. zero_spans (drop h.clauses cs) && zero_literals (drop end ls)) (spans_end (take h.variables vs) 0 (take h.clauses cs) ls) false
+clauses_lawful h vs cs ls = spans_lawful (take h.variables vs) (take h.clauses cs) (drop h.clauses cs) ls
 
 -- what the audit computes
 abbrev pub formula_lawful : Head → List Variable → List Clause → List Literal → Bool

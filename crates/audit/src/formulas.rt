@@ -1,10 +1,12 @@
 // The audit of formula tables.
 ghost use Rattle.std.specs.Prelude.{◌≡◌, ◌+◌, ◌<◌, ◌≤◌, [], true, length, Decides, slice_set};
 ghost use Rattle.std.specs.Bool.{then_some};
-ghost use Rattle.audit.specs.FormulaAudit.{head_lawful, free, owns, all_owned, variables_lawful, clause_lawful, clauses_lawful, formula_lawful, LeftByAFormulaText};
+ghost use Rattle.formula.specs.declared.tables.TheConstants.{MAX_EXISTENTIALS, MAX_UNIVERSALS, MAX_VARIABLES};
+ghost use Rattle.audit.specs.FormulaAudit.{head_lawful, free, owns, all_owned, records_lawful, clause_lawful, spans_lawful, formula_lawful, LeftByAFormulaText};
 
 use super::all_are;
 use base::values::ValueWord;
+use formula::lookup::variable;
 use formula::marks::Marks;
 use formula::tables::{
     Clause, Head, Kind, Literal, MAX_CLAUSES, MAX_EXISTENTIALS, MAX_LITERALS, MAX_UNIVERSALS,
@@ -27,8 +29,8 @@ fn lawful_head(head: Head, variables: usize, clauses: usize) -> bool
 // a 0 stands for none, as in the lent tables.
 #[derive(Drop)]
 struct Owners {
-    universals: [u32; 65],
-    existentials: [u32; 4_097],
+    universals: [u32; MAX_UNIVERSALS as usize + 1],
+    existentials: [u32; MAX_EXISTENTIALS as usize + 1],
 }
 
 // Makes v the owner of a position from 1 to `last`; false where there is no such position, or it has an owner.
@@ -48,8 +50,8 @@ impl Owners {
     // Enters variable v as the owner of its position; false where its record is none that a reading leaves, or the
     // position has an owner.
     fn own(&mut self, head: Head, v: u32, variable: Variable) -> bool
-        requires universals { head.universals ≤ 64 }
-        requires existentials { head.existentials ≤ 4096 }
+        requires universals { head.universals ≤ MAX_UNIVERSALS }
+        requires existentials { head.existentials ≤ MAX_EXISTENTIALS }
         ensures { then_some result self.new ≡ owns head v variable self.old }
     {
         let Variable {
@@ -78,17 +80,18 @@ fn has_owners(owners: &[u32]) -> bool
     owners.iter().all(|owner| *owner != 0)
 }
 
-fn lawful_variables(head: Head, vars: &[Variable]) -> bool
-    requires variables { head.variables ≤ length vars.now }
-    requires universals { head.universals ≤ 64 }
-    requires existentials { head.existentials ≤ 4096 }
-    ensures { result ≡ variables_lawful head vars.now }
+// Whether the declared variables own their positions, one each, and the records behind them are free.
+fn lawful_variables(head: Head, declared: &[Variable], free: &[Variable]) -> bool
+    requires variables { length declared.now ≤ MAX_VARIABLES }
+    requires universals { head.universals ≤ MAX_UNIVERSALS }
+    requires existentials { head.existentials ≤ MAX_EXISTENTIALS }
+    ensures { result ≡ records_lawful head declared.now free.now }
 {
-    let (declared, free) = vars.split_at(head.variables as usize);
     let mut owners = Owners {
-        universals: [0; 65],
-        existentials: [0; 4_097],
+        universals: [0; MAX_UNIVERSALS as usize + 1],
+        existentials: [0; MAX_EXISTENTIALS as usize + 1],
     };
+    // A loop: each step changes the owners, which a closure of `all` may not if a proof is to know them.
     for (i, variable) in declared.iter().enumerate() {
         if !owners.own(head, i as u32 + 1, *variable) {
             return false;
@@ -101,16 +104,14 @@ fn lawful_variables(head: Head, vars: &[Variable]) -> bool
 
 // Whether these are literals of declared variables, none of which is named twice.
 fn lawful_clause(declared: &[Variable], marks: &mut Marks, literals: &[Literal]) -> bool
-    requires variables { length declared.now ≤ 65535 }
+    requires variables { length declared.now ≤ MAX_VARIABLES }
     ensures { result ≡ clause_lawful declared.now [] literals.now }
 {
     marks.next_clause();
+    // A loop, as above: each step marks a variable.
     for literal in literals {
         let v = literal.variable;
-        if v == 0 || v as usize > declared.len() {
-            return false;
-        }
-        if declared[v as usize - 1].kind == Kind::Undeclared || marks.has(v) {
+        if variable(declared, v).is_none_or(|x| x.kind == Kind::Undeclared) || marks.has(v) {
             return false;
         }
         marks.add(v);
@@ -119,16 +120,18 @@ fn lawful_clause(declared: &[Variable], marks: &mut Marks, literals: &[Literal])
 }
 
 // Whether each clause is lawful and stands directly behind the one before, with zeros behind the last.
-fn lawful_clauses(head: Head, vars: &[Variable], clauses: &[Clause], literals: &[Literal]) -> bool
-    requires variables { head.variables ≤ length vars.now }
-    requires few_variables { head.variables ≤ 65535 }
-    requires clauses { head.clauses ≤ length clauses.now }
-    ensures { result ≡ clauses_lawful head vars.now clauses.now literals.now }
+fn lawful_clauses(
+    declared: &[Variable],
+    used: &[Clause],
+    free: &[Clause],
+    literals: &[Literal],
+) -> bool
+    requires variables { length declared.now ≤ MAX_VARIABLES }
+    ensures { result ≡ spans_lawful declared.now used.now free.now literals.now }
 {
-    let declared = &vars[..head.variables as usize];
-    let (used, free) = clauses.split_at(head.clauses as usize);
     let mut marks = Marks::new();
     let mut at = 0;
+    // A loop, as above: each step moves the place in the literals and the marks.
     for clause in used {
         if clause.first as usize != at || clause.len as usize > MAX_LITERALS {
             return false;
@@ -154,7 +157,11 @@ pub fn audit_formula(
     ensures is { result ≡ formula_lawful head vars.now clauses.now literals.now }
     ensures lawful { Decides result (LeftByAFormulaText head vars.now clauses.now literals.now) }
 {
-    lawful_head(head, vars.len(), clauses.len())
-        && lawful_variables(head, vars)
-        && lawful_clauses(head, vars, clauses, literals)
+    if !lawful_head(head, vars.len(), clauses.len()) {
+        return false;
+    }
+    let (declared, free_vars) = vars.split_at(head.variables as usize);
+    let (used, free_clauses) = clauses.split_at(head.clauses as usize);
+    lawful_variables(head, declared, free_vars)
+        && lawful_clauses(declared, used, free_clauses, literals)
 }

@@ -1,9 +1,9 @@
 // The reader of formula texts: `p cnf V C`, then groups of declarations, then C clauses.
-ghost use Rattle.std.specs.Prelude.{◌≡◌, ◌<◌, ◌≤◌, length, replicate, ◌||◌, nat_lt, IfOk, OnOk, OnSome};
+ghost use Rattle.std.specs.Prelude.{◌≡◌, ◌≤◌, length, replicate, ◌||◌, nat_lt, IfOk, OnOk};
 ghost use Rattle.words.specs.Words.{words_from};
 ghost use Rattle.words.specs.Due.{got};
 ghost use Rattle.base.specs.Causes.{answered};
-ghost use Rattle.formula.specs.Groups.{no_variable, variable_in};
+ghost use Rattle.formula.specs.Groups.{no_variable};
 ghost use Rattle.formula.specs.Reading.{count_from, header_from, head_read, place_read, tables, formula_for, Agrees, Reads, no_span, no_literal};
 
 use self::clauses::read_clauses;
@@ -16,14 +16,6 @@ use words::word::check_length;
 
 pub mod clauses;
 pub mod groups;
-
-// The record of v, where v is one of these variables, which are numbered from 1.
-pub(crate) fn variable(vars: &[Variable], v: u32) -> Option<Variable>
-    ensures is { result ≡ variable_in vars.now v }
-    ensures within { OnSome result ((0 < v) × (v ≤ length vars.now)) }
-{
-    vars.get((v as usize).checked_sub(1)?).copied()
-}
 
 // A count of the header, judged at its word: a broken limit comes before a table that is too short.
 fn read_count(

@@ -8,9 +8,9 @@ ghost use Rattle.formula.specs.Clauses.{no_clause, literal_of, judge_literal, cl
 ghost use Rattle.formula.specs.Groups.{followed};
 ghost use Rattle.formula.specs.Marks.{has_mark};
 
+use super::super::lookup::variable;
 use super::super::marks::Marks;
 use super::super::tables::{Clause, Kind, Literal, MAX_LITERALS, Variable};
-use super::variable;
 use base::faults::{Cause, Fault, Layer};
 use words::due::read_literal;
 use words::forms::Numeral;

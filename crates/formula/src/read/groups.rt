@@ -5,8 +5,8 @@ ghost use Rattle.words.specs.Due.{Further};
 ghost use Rattle.base.specs.Causes.{answered};
 ghost use Rattle.formula.specs.Groups.{fresh, declared, add_in, add_dependency, group_in, inside, followed, groups_at, Begins, nothing_declared, Where};
 
+use super::super::lookup::variable;
 use super::super::tables::{Kind, MAX_EXISTENTIALS, MAX_UNIVERSALS, Variable};
-use super::variable;
 use base::faults::{Cause, Fault, Layer};
 use base::values::ValueWord;
 use words::due::read_number;
@@ -48,7 +48,8 @@ fn group_of(word: &[u8]) -> Option<Group>
 // A variable that is declared has to be one of the formula's, and not declared before.
 fn check_fresh(vars: &[Variable], v: u32, at: usize) -> Result<(), Fault>
     ensures is { answered result ≡ fresh (length vars.now) vars.now v at }
-    ensures within { OnOk result ((0 < v) × (v ≤ length vars.now)) }
+    ensures above { OnOk result (0 < v) }
+    ensures within { OnOk result (v ≤ length vars.now) }
 {
     let record = variable(vars, v).ok_or(Layer::Formula.fault(Cause::VariableUnfit, at))?;
     if record.kind != Kind::Undeclared {
@@ -67,7 +68,8 @@ fn declare(
     at: usize,
 ) -> Result<Counts, Fault>
     ensures is { followed result (λ c. Ok (declared c vars.new)) ≡ add_in group (length vars.old) (declared counts vars.old) v at }
-    ensures within { OnOk result ((0 < v) × (v ≤ length vars.old)) }
+    ensures above { OnOk result (0 < v) }
+    ensures within { OnOk result (v ≤ length vars.old) }
 {
     let (quantifier, dependencies) = match group {
         Group::Listed(Quantifier::Universal) => (Quantifier::Universal, ValueWord::empty()),

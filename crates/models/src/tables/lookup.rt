@@ -7,6 +7,7 @@ ghost use Rattle.spelling.specs.Dqbf.{Dqbf};
 use super::{CircuitTables, FormulaTables};
 use audit::circuits::audit_circuit;
 use audit::formulas::audit_formula;
+use formula::lookup::variable;
 use formula::tables::{Literal, MAX_LITERALS, Variable};
 
 impl<'a> FormulaTables<'a> {
@@ -22,11 +23,7 @@ impl<'a> FormulaTables<'a> {
     pub fn variable(&self, number: u32) -> Variable
         ensures { result ≡ record_at self.now.variables.now number }
     {
-        number
-            .checked_sub(1)
-            .and_then(|index| self.variables.get(index as usize))
-            .copied()
-            .unwrap_or_default()
+        variable(self.variables, number).unwrap_or_default()
     }
 
     // The literals of a clause, by its number from 1; none where there is no such clause.

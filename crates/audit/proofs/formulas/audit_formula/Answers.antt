@@ -7,3 +7,6 @@ returns-then-lawful_variables c = record { is = search rules; lawful = formula_a
 
 pub returns-else-lawful_variables : goal.returns-else-lawful_variables
 returns-else-lawful_variables c = record { is = search rules; lawful = formula_audited _ _ _ _ (search rules) }
+
+pub returns-then-not-lawful_head-clause-lawful : goal.returns-then-not-lawful_head-clause-lawful
+returns-then-not-lawful_head-clause-lawful c = formula_audited _ _ _ _ (search rules)
