@@ -20,14 +20,17 @@ pub trait Shelf {
 
     // Empties the list.
     fn clear(&mut self)
-        ensures { (list self.new ≡ []) × ((K self.new ≡ K self.old) × (W self.new ≡ W self.old)) };
+        ensures empty { list self.new ≡ [] }
+        ensures clause_limit { K self.new ≡ K self.old }
+        ensures entry_limit { W self.new ≡ W self.old };
 
     // Appends a clause and answers its number, from 1. Refuses, changing nothing, exactly when K clauses are filed
     // or W entries would be passed.
     fn file(&mut self, clause: &[Entry]) -> Option<u32>
         ensures answer { result ≡ filed_number (K self.old) (W self.old) (list self.old) clause.now }
         ensures after { list self.new ≡ filed_list (K self.old) (W self.old) (list self.old) clause.now }
-        ensures same { (K self.new ≡ K self.old) × (W self.new ≡ W self.old) };
+        ensures clause_limit { K self.new ≡ K self.old }
+        ensures entry_limit { W self.new ≡ W self.old };
 
     // How many clauses are filed.
     fn count(&self) -> u32
