@@ -37,10 +37,12 @@ pub trait Shelf {
         ensures { result ≡ length (list self.now) };
 
     // How many entries a clause has; 0 where there is no such clause.
+    // Total, so that hosts may ask for any number.
     fn length(&self, number: u32) -> u32
         ensures { result ≡ length (clause_at (list self.now) number) };
 
     // The entry of a clause at an index, from 0; (0, 0) where there is none.
+    // Total, so that hosts may ask for any number.
     fn entry(&self, number: u32, index: u32) -> Entry
         ensures { result ≡ entry_at (list self.now) number index };
 
