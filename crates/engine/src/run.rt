@@ -14,6 +14,7 @@ use records::slip::Slip;
 use records::step::Step;
 
 // A call: a case is opened under a number; a step; a record's bytes; or the case with a number is closed.
+// Calls are data: the laws speak of every list of them.
 #[derive(Clone, Copy)]
 pub enum Call<'a> {
     Open(u32),

@@ -110,6 +110,7 @@ impl Pool {
         ensures { Returned (places (blocks_of self.old) clause) self.old self.new }
     {
         let mut place = clause.head;
+        // As many steps along the chain as the clause has blocks: no link says that none follows.
         for _ in 0..blocks_for(clause.length) {
             place = self.give_back(place);
         }
@@ -122,6 +123,7 @@ impl Pool {
         ensures { result ≡ slice_index_or (clause_of (blocks_of self.now) clause) index no_entry }
     {
         let mut place = clause.head;
+        // As many steps along the chain as whole blocks lie before the index.
         for _ in 0..index / 4 {
             place = self.block(place).next;
         }

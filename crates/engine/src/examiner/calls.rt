@@ -32,7 +32,9 @@ fn first_unsettled(settled: &[bool]) -> Option<usize>
 impl<S: Side + Drop, F: Shelf + Drop> Examiner<S, F> {
     // Makes an examiner: no case is open, the shelf keeps its list, and no goal is settled.
     pub fn new(heap: Global, side: S, shelf: F) -> Result<Self, AllocError>
-        ensures { IfOk result (λ e. (rules_of S.Side F.Shelf e ≡ rules S.Side F.Shelf side shelf) × (state_of S.Side F.Shelf e ≡ start (F.Shelf.list shelf)) × (e.side ≡ side)) }
+        ensures rules { IfOk result (λ e. rules_of S.Side F.Shelf e ≡ rules S.Side F.Shelf side shelf) }
+        ensures state { IfOk result (λ e. state_of S.Side F.Shelf e ≡ start (F.Shelf.list shelf)) }
+        ensures side { IfOk result (λ e. e.side ≡ side) }
     {
         let settled = vec![in heap; false; GOALS]?;
         let first = vec![in heap; Entry::default(); 2 * LONGEST_CLAUSE]?;

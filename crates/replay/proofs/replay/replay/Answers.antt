@@ -10,7 +10,7 @@ returns-in_err-examiner-clause-lawful g c =
 pub returns : goal.returns
 returns g c =
     let made = c.in_ok-examiner.ensures in
-    let all = replays_made g.S.Side g.F.Shelf c.args.case c.args.proof.now c.replay_on.result c.in_ok-examiner.examiner c.args.side c.args.shelf made.0 made.1 made.2 c.replay_on.ensures in
+    let all = replays_made g.S.Side g.F.Shelf c.args.case c.args.proof.now c.replay_on.result c.in_ok-examiner.examiner c.args.side c.args.shelf made.rules made.state made.side c.replay_on.ensures in
     record {
       is = all.0;
       holds = all.1;
