@@ -59,8 +59,8 @@ fn read_header(
     Ok((variables, clauses))
 }
 
-// The tables are lent each by itself: of a struct of references each contract would also have to say that they stay.
-// Reads a formula into tables that are zero; what a refusal leaves in them and in the place is the caller's to clear.
+// Reads a formula into tables that are zero; what a refusal leaves in them and in the place is the caller's to clear. The
+// tables are lent each by itself: of a struct of references each contract would also have to say that they stay.
 fn read_into(
     text: &[u8],
     place: &mut Place,

@@ -24,9 +24,8 @@ pub enum Kind {
     Existential,
 }
 
-// Lent to the reader and read by the sides, so an entry has each field, 0 where it says nothing.
 // A variable's record: its kind, its position among those of its kind, from 1, and the universals that it may
-// depend on. Variable v has index v - 1.
+// depend on. Variable v has index v - 1. The table is lent, and each entry has all three fields, 0 where they say nothing.
 #[derive(Clone, Copy, PartialEq, Eq, Debug, Default)]
 pub struct Variable {
     pub kind: Kind,

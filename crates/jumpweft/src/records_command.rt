@@ -15,7 +15,7 @@ fn print_records(rt: &HostRuntime, bytes: &[u8]) -> Result<(), Failure> {
     let mut out = BufWriter::new(rt.alloc(), rt.stdout())?;
     let mut rest = bytes;
     let mut count = 0usize;
-    // How long a record is becomes known when it is read.
+    // The length of a record is known once it is read.
     while !rest.is_empty() {
         count += 1;
         let (read, behind) = read_record(rest);

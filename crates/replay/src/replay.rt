@@ -79,7 +79,7 @@ fn take_all<S: Side, F: Shelf, P: Progress>(
 {
     let mut records = 0usize;
     let mut bytes = 0usize;
-    // How long a record is is known once it is taken.
+    // The length of a record is known once it is taken.
     while bytes < proof.len() {
         let (answer, used) = examiner.take(&proof[bytes..]);
         if let Err(fault) = answer {
