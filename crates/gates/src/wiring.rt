@@ -109,7 +109,8 @@ fn lay_output(
 
 // Lays a premise of the circuits at the front of a row: class 0 is the constant, class 1 the gates, class 2 the outputs; answers
 // how many literals it has. Refused where there is no such premise; and where the row is shorter, with nothing changed. The class
-// is a byte of a record: any value may come, and each that names a class stands in one arm.
+// is a byte of a record: any value may come, and each that names a class stands in one arm. Class, number, part and row are passed
+// each by itself, as the record and the examiner have them.
 pub fn lay_wiring(
     circuit: &CircuitTables,
     class: u8,

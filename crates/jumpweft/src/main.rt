@@ -49,7 +49,7 @@ fn run(rt: &HostRuntime) -> Result<(), Failure> {
     run_command(rt, &arguments)
 }
 
-// Runs the command that the arguments name.
+// Runs the command that the arguments name, a word of the command line.
 fn run_command(rt: &HostRuntime, arguments: &Arguments<'_>) -> Result<(), Failure> {
     match arguments.command {
         "true" => case_command::run_truth(rt, arguments),

@@ -20,7 +20,8 @@ pub fn wire_reach(inputs: u32, reaches: &[ValueWord], wire: u32) -> ValueWord
         .unwrap_or(ValueWord::empty())
 }
 
-// Writes the reach of each gate, zero behind them; where either table is shorter than the gates, all zero and false.
+// Writes the reach of each gate, zero behind them; where either table is shorter than the gates, all zero and false: a yes
+// or no, since what the rows hold is said in both cases.
 pub fn fill_reaches(head: CircuitHead, gates: &[Gate], reaches: &mut [ValueWord]) -> bool
     ensures answer { result ≡ fills head gates.now (length reaches.old) }
     ensures after { reaches.new ≡ reaches_table head gates.now (length reaches.old) }
