@@ -1,2 +1,3 @@
 pub mod Trial
 pub mod TrialWorld
+pub mod Script

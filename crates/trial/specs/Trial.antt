@@ -13,13 +13,15 @@ positive k = record { code = 2 * k; values = empty_word }
 abbrev pub negative : ℕ → Entry
 negative k = record { code = 2 * k + 1; values = empty_word }
 
--- class 0: variable k; class 1: the same, twice; class 2: k implies the next; class 3: k implies the next or a further one
+-- class 0: variable k; class 1: the same, twice; class 2: k implies the next; class 3: k implies the next
+-- or a further one; class 4: k or its negation
 abbrev pub trial_class : ℕ → ℕ → Result (List Entry) ℕ
 trial_class class k =
     cond (class == 0) (Ok (positive k ∷ []))
     (cond (class == 1) (Ok (positive k ∷ positive k ∷ []))
     (cond (class == 2) (Ok (negative k ∷ positive (k + 1) ∷ []))
-    (cond (class == 3) (Ok (negative k ∷ positive (k + 1) ∷ positive (k + 65536) ∷ [])) (Err 16))))
+    (cond (class == 3) (Ok (negative k ∷ positive (k + 1) ∷ positive (k + 65536) ∷ []))
+    (cond (class == 4) (Ok (positive k ∷ negative k ∷ [])) (Err 16)))))
 
 abbrev pub trial_claim : Premise → Result (List Entry) ℕ
 trial_claim (premise.Truth class k part) = trial_class class k

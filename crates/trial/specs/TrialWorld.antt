@@ -34,12 +34,13 @@ abbrev Each : (List Entry → Type 0) → Result (List Entry) ℕ → Type 0
 Each P (Ok c) = P c
 Each P (Err k) = Unit {0}
 
-each_class : (P : List Entry → Type 0) (class k : ℕ) → P (positive k ∷ []) → P (positive k ∷ positive k ∷ []) → P (negative k ∷ positive (k + 1) ∷ []) → P (negative k ∷ positive (k + 1) ∷ positive (k + 65536) ∷ []) → Each P (trial_class class k)
-each_class P class k p q r s =
+each_class : (P : List Entry → Type 0) (class k : ℕ) → P (positive k ∷ []) → P (positive k ∷ positive k ∷ []) → P (negative k ∷ positive (k + 1) ∷ []) → P (negative k ∷ positive (k + 1) ∷ positive (k + 65536) ∷ []) → P (positive k ∷ negative k ∷ []) → Each P (trial_class class k)
+each_class P class k p q r s t =
     cond_both (class == 0) _ _ (Each P) (λ e. p)
     (λ e. cond_both (class == 1) _ _ (Each P) (λ e. q)
     (λ e. cond_both (class == 2) _ _ (Each P) (λ e. r)
-    (λ e. cond_both (class == 3) _ _ (Each P) (λ e. s) (λ e. tt))))
+    (λ e. cond_both (class == 3) _ _ (Each P) (λ e. s)
+    (λ e. cond_both (class == 4) _ _ (Each P) (λ e. t) (λ e. tt)))))
 
 each_claim : (P : List Entry → Type 0) → ((class k : ℕ) → Each P (trial_class class k)) → (p : Premise) → Each P (trial_claim p)
 each_claim P f (premise.Truth class k part) = f class k
@@ -54,7 +55,7 @@ Short c = length c ≤ 1024
 pub claim_short : (p : Premise) (c : List Entry) → trial_claim p ≡ Ok c → length c ≤ 1024
 claim_short p c e =
     of_each Short c (trial_claim p) e
-    (each_claim Short (λ class k. each_class Short class k (omega arith) (omega arith) (omega arith) (omega arith)) p)
+    (each_claim Short (λ class k. each_class Short class k (omega arith) (omega arith) (omega arith) (omega arith) (omega arith)) p)
 
 positive_true : (k : ℕ) → is_true (positive k) ≡ true
 positive_true k = grind (arith, nat_tests)
@@ -76,4 +77,5 @@ pub claim_true : (p : Premise) (c : List Entry) → trial_claim p ≡ Ok c → t
 claim_true p c e =
     of_each TrueClause c (trial_claim p) e
     (each_claim TrueClause
-    (λ class k. each_class TrueClause class k (first_true k []) (first_true k (positive k ∷ [])) (second_true (negative k) (k + 1) []) (second_true (negative k) (k + 1) (positive (k + 65536) ∷ []))) p)
+    (λ class k. each_class TrueClause class k (first_true k []) (first_true k (positive k ∷ [])) (second_true (negative k) (k + 1) []) (second_true (negative k) (k + 1) (positive (k + 65536) ∷ []))
+    (first_true k (negative k ∷ []))) p)

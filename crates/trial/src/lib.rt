@@ -8,6 +8,10 @@ ghost use Rattle.engine.specs.declared.side.Verdict.TheVariants as verdict;
 ghost use Rattle.trial.specs.Trial.{trial_class, trial_claim, trial_admits, trial_goals, trial_goal, trial_opening};
 ghost use Rattle.trial.specs.TrialWorld.{all_true, EachGoal, goals_few, goal_brief, claim_short, claim_true};
 
+pub mod script;
+#[cfg(test)]
+mod tests;
+
 use base::faults::{Cause, Fault, Layer};
 use base::values::ValueWord;
 use clauses::entry::Entry;
@@ -54,6 +58,7 @@ fn lay_class(class: u8, k: u16, row: &mut [Entry]) -> Result<usize, Cause>
         1 => lay(&[own, own], row),
         2 => lay(&[not, next], row),
         3 => lay(&[not, next, entry(2 * (k as u32 + 65_536))], row),
+        4 => lay(&[own, not], row),
         _ => Err(Cause::NotThere),
     }
 }
