@@ -1,6 +1,6 @@
 -- What the tests of the circuit audit say of its tables, and back.
-use Rattle.std.proofs.Common.{◌≡◌, ℕ, zero, suc, ◌+◌, ◌-◌, ◌*◌, ◌<◌, ◌≤◌, true, eqb, ltb, leb, List, [], ◌∷◌, ◌++◌, length, take, drop, replicate, Decides, sym, refl, ap, ◌∙◌, ap₂}
-use Rattle.std.specs.List.{AllByRecursion}
+use Rattle.std.proofs.Common.{◌≡◌, ℕ, zero, suc, ◌+◌, ◌-◌, ◌*◌, ◌<◌, ◌≤◌, Bool, true, eqb, ltb, leb, List, [], ◌∷◌, ◌++◌, length, take, drop, replicate, Decides, sym, refl, ap, ◌∙◌, subst, ap₂, add-zero, arith}
+use Rattle.std.specs.List.{AllByRecursion, enumerate_from, list_all}
 use Rattle.std.proofs.lemmas.List.{take-append-drop, length-take-le, length-drop, take_at, drop_at}
 use Rattle.std.proofs.lemmas.Bool.{leb-true, le-leb, eqb-true, eq-eqb, and_parts, and_from}
 use Rattle.std.proofs.lemmas.Bool.Decides.{Decides-ltb}
@@ -10,7 +10,7 @@ use Rattle.circuit.specs.declared.tables.CircuitHead.{CircuitHead}
 use Rattle.circuit.specs.declared.tables.Gate.{Gate}
 use Rattle.circuit.specs.Reading.{no_gate}
 use Rattle.spelling.specs.CircuitGrammar.{OrderedFrom}
-use Rattle.audit.specs.CircuitAudit.{counts_lawful, outputs_lawful, gates_lawful, zero_outputs, zero_gates}
+use Rattle.audit.specs.CircuitAudit.{counts_lawful, outputs_lawful, below_own, gates_lawful, zero_outputs, zero_gate, zero_gates}
 
 -- the counts
 pub record Counts (h : CircuitHead) (outputs gates : ℕ) : Type 0 where
@@ -62,47 +62,59 @@ module _ (h : CircuitHead) (outputs gates : ℕ) where
 pub decides_outputs : (bound : ℕ) (os : List ℕ) → Decides (outputs_lawful bound os) (AllByRecursion (λ o. o < bound) os)
 decides_outputs bound os = Decides-by_and (λ o. ltb o bound) (λ o. o < bound) (outputs_lawful bound) (λ o. Decides-ltb o bound) refl (λ _ _. refl) os
 
-gates_ordered : (i : ℕ) (gs : List Gate) → gates_lawful i gs ≡ true → OrderedFrom i gs
-gates_ordered i [] e = tt
-gates_ordered i (g ∷ gs) e =
-    let a = and_parts _ (gates_lawful (i + 1) gs) e in
-    let b = and_parts (ltb g.left (2 * (i + 1))) (ltb g.right (2 * (i + 1))) a.0 in
-    ((Decides-ltb g.left (2 * (i + 1))).0 b.0, (Decides-ltb g.right (2 * (i + 1))).0 b.1, gates_ordered (i + 1) gs a.1)
+-- the gates from gate k on
+gates_ordered : (i k : ℕ) (gs : List Gate) → list_all (below_own i) (enumerate_from k gs) ≡ true → OrderedFrom (i + k) gs
+gates_ordered i k [] e = tt
+gates_ordered i k (g ∷ gs) e =
+    let own = 2 * (i + k + 1) in
+    let a = and_parts (below_own i (k, g)) (list_all (below_own i) (enumerate_from (k + 1) gs)) e in
+    let b = and_parts (ltb g.left own) (ltb g.right own) a.0 in
+    let next : i + (k + 1) ≡ i + k + 1 = omega arith in
+    ((Decides-ltb g.left own).0 b.0, (Decides-ltb g.right own).0 b.1, subst (λ (n : ℕ). OrderedFrom n gs) next (gates_ordered i (k + 1) gs a.1))
 
-ordered_gates : (i : ℕ) (gs : List Gate) → OrderedFrom i gs → gates_lawful i gs ≡ true
-ordered_gates i [] o = refl
-ordered_gates i (g ∷ gs) o =
+ordered_gates : (i k : ℕ) (gs : List Gate) → OrderedFrom (i + k) gs → list_all (below_own i) (enumerate_from k gs) ≡ true
+ordered_gates i k [] o = refl
+ordered_gates i k (g ∷ gs) o =
+    let own = 2 * (i + k + 1) in
+    let next : i + k + 1 ≡ i + (k + 1) = omega arith in
     and_from _ _
-    (and_from _ _ ((Decides-ltb g.left (2 * (i + 1))).1 o.0) ((Decides-ltb g.right (2 * (i + 1))).1 o.1))
-    (ordered_gates (i + 1) gs o.2)
+    (and_from _ _ ((Decides-ltb g.left own).1 o.0) ((Decides-ltb g.right own).1 o.1))
+    (ordered_gates i (k + 1) gs (subst (λ (n : ℕ). OrderedFrom n gs) next o.2))
 
 pub decides_gates : (i : ℕ) (gs : List Gate) → Decides (gates_lawful i gs) (OrderedFrom i gs)
-decides_gates i gs = (gates_ordered i gs, ordered_gates i gs)
+decides_gates i gs = (
+  λ e. subst (λ (n : ℕ). OrderedFrom n gs) (add-zero i) (gates_ordered i 0 gs e),
+  λ o. ordered_gates i 0 gs (subst (λ (n : ℕ). OrderedFrom n gs) (sym (add-zero i)) o),
+)
+
+-- entries that all pass a test which one entry alone passes are that entry, and back
+pub all_replicate : {X : Type 0} (test : X → Bool) (none : X) → ((x : X) → test x ≡ true → x ≡ none) → (xs : List X) → list_all test xs ≡ true → xs ≡ replicate (length xs) none
+all_replicate test none one [] e = refl
+all_replicate test none one (x ∷ xs) e =
+    let a = and_parts (test x) (list_all test xs) e in
+    ap₂ ◌∷◌ (one x a.0) (all_replicate test none one xs a.1)
+
+pub replicate_all : {X : Type 0} (test : X → Bool) (none : X) → test none ≡ true → (n : ℕ) → list_all test (replicate n none) ≡ true
+replicate_all test none e zero = refl
+replicate_all test none e (suc n) = and_from (test none) (list_all test (replicate n none)) e (replicate_all test none e n)
 
 -- zeros
 pub outputs_zero : (os : List ℕ) → zero_outputs os ≡ true → os ≡ replicate (length os) 0
-outputs_zero [] e = refl
-outputs_zero (o ∷ os) e =
-    let a = and_parts (eqb o 0) (zero_outputs os) e in
-    ap₂ ◌∷◌ (eqb-true o 0 a.0) (outputs_zero os a.1)
+outputs_zero os e = all_replicate (λ o. eqb o 0) 0 (λ o. eqb-true o 0) os e
 
 pub zeros_outputs : (n : ℕ) → zero_outputs (replicate n 0) ≡ true
-zeros_outputs zero = refl
-zeros_outputs (suc n) = zeros_outputs n
+zeros_outputs n = replicate_all (λ o. eqb o 0) 0 refl n
 
-gate_zero : (g : Gate) → g.left ≡ 0 → g.right ≡ 0 → g ≡ no_gate
-gate_zero g l r = ap₂ (λ (x y : ℕ). record { left = x; right = y }) l r
+gate_zero : (g : Gate) → zero_gate g ≡ true → g ≡ no_gate
+gate_zero g e =
+    let a = and_parts (eqb g.left 0) (eqb g.right 0) e in
+    ap₂ (λ (x y : ℕ). record { left = x; right = y }) (eqb-true g.left 0 a.0) (eqb-true g.right 0 a.1)
 
 pub gates_zero : (gs : List Gate) → zero_gates gs ≡ true → gs ≡ replicate (length gs) no_gate
-gates_zero [] e = refl
-gates_zero (g ∷ gs) e =
-    let a = and_parts _ (zero_gates gs) e in
-    let b = and_parts (eqb g.left 0) (eqb g.right 0) a.0 in
-    ap₂ ◌∷◌ (gate_zero g (eqb-true g.left 0 b.0) (eqb-true g.right 0 b.1)) (gates_zero gs a.1)
+gates_zero gs e = all_replicate zero_gate no_gate gate_zero gs e
 
 pub zeros_gates : (n : ℕ) → zero_gates (replicate n no_gate) ≡ true
-zeros_gates zero = refl
-zeros_gates (suc n) = zeros_gates n
+zeros_gates n = replicate_all zero_gate no_gate refl n
 
 -- a table whose rest is empty is padded, and back
 pub table_padded : {X : Type 0} (none : X) (xs : List X) (n : ℕ) → n ≤ length xs → drop n xs ≡ replicate (length (drop n xs)) none → xs ≡ padded none (take n xs) (length xs)

@@ -1,8 +1,8 @@
 -- The formula audit accepts exactly the tables that some accepted reading of some text leaves.
-use Rattle.std.proofs.Common.{◌≡◌, ℕ, ◌+◌, ◌-◌, ◌^◌, ◌<◌, ◌≤◌, Bool, true, not, leb, List, length, get_or, Decides, sym, refl, ap, ◌∙◌, subst, ap₂, arith}
+use Rattle.std.proofs.Common.{◌≡◌, ℕ, ◌+◌, ◌-◌, ◌^◌, ◌<◌, ◌≤◌, Bool, true, not, leb, List, length, get_or, take, Decides, sym, refl, ap, ◌∙◌, subst, ap₂, arith}
 use Rattle.std.specs.List.{AllByRecursion}
 use Rattle.std.proofs.ByRecursion.{All-weaker}
-use Rattle.std.proofs.lemmas.List.{ext_get_or}
+use Rattle.std.proofs.lemmas.List.{ext_get_or, get_or-take, length-take-le}
 use Rattle.std.proofs.lemmas.Bool.{leb-true, le-leb, and_parts, and_from}
 use Rattle.std.proofs.lemmas.Bool.Decides.{Decides-at}
 use Rattle.words.specs.Words.{Spelt, words_from}
@@ -11,14 +11,13 @@ use Rattle.formula.specs.declared.tables.Clause.{Clause}
 use Rattle.formula.specs.declared.tables.Head.{Head}
 use Rattle.formula.specs.declared.tables.Literal.{Literal}
 use Rattle.formula.specs.declared.tables.Variable.{Variable}
-use Rattle.formula.specs.Groups.{no_variable, variable_at, is_undeclared, is_universal}
+use Rattle.formula.specs.Groups.{no_variable, variable_at, is_undeclared, is_universal, is_existential}
 use Rattle.formula.specs.Reading.{no_span, no_literal}
 use Rattle.spelling.specs.Dqbf.{Declaration, Dqbf, Lawful, LawfulClause, member, universals_of, existentials_of, record_of}
 use Rattle.spelling.proofs.ProperWords.{words_proper}
 use Rattle.spelling.proofs.PrefixLaws.{LawfulPrefix, variables_of, record_undeclared, prefix_lawful}
 use Rattle.spelling.proofs.FormulaLaws.{FormulaWasRead, parts_sound, parts_complete}
 use Rattle.audit.specs.FormulaAudit.{head_lawful, variables_lawful, clauses_lawful, formula_lawful, LeavesFormula, LeftByAFormulaText}
-use Rattle.audit.proofs.FormulaOwners.{is_existential}
 use Rattle.audit.proofs.FormulaVariables.{Variables, decides_variables}
 use Rattle.audit.proofs.FormulaPrefix.{prefix_universals, prefix_existentials, listed_distinct, listed_range, held_prefix, held_records, held_lawful, held_positions}
 use Rattle.audit.proofs.FormulaPlaces.{declared_all}
@@ -81,6 +80,24 @@ module _ (h : Head) (vs : List Variable) (cs : List Clause) (ls : List Literal) 
 
   abbrev Range : ℕ → Type 0
   Range v = (1 ≤ v) × (v ≤ known)
+
+  abbrev front : List Variable
+  front = take known vs
+
+  module _ (fits : known ≤ length vs) where
+    front_count : length front ≡ known
+    front_count = length-take-le known vs fits
+
+    front_at : (v : ℕ) → 1 ≤ v → v ≤ length front → variable_at front v ≡ variable_at vs v
+    front_at v some most = get_or-take known vs (v - 1) no_variable (omega (arith, front_count))
+
+    -- what the records tell, their front tells
+    front_tells : (declared : List ℕ) → ((v : ℕ) → 1 ≤ v → v ≤ known → is_undeclared (variable_at vs v).kind ≡ not (member v declared)) → (v : ℕ) → 1 ≤ v → v ≤ length front → is_undeclared (variable_at front v).kind ≡ not (member v declared)
+    front_tells declared tells v some most =
+        ap (λ (x : Variable). is_undeclared x.kind) (front_at v some most) ∙ tells v some (omega (arith, front_count))
+
+    front_range : (declared : List ℕ) → ((v : ℕ) → member v declared ≡ true → Range v) → (v : ℕ) → member v declared ≡ true → (1 ≤ v) × (v ≤ length front)
+    front_range declared range v m = let (some, most) = range v m in (some, omega (arith, front_count))
 
   -- tables that pass are left by the text of their formula
   module _ (low : AllByRecursion (λ x. x.dependencies.bits < 2 ^ 64) vs) (l : Limits h (length vs) (length cs)) (a : Variables h vs) where
@@ -167,7 +184,8 @@ module _ (h : Head) (vs : List Variable) (cs : List Clause) (ls : List Literal) 
       let l = limits_are h (length vs) (length cs) b.0 in
       let v = (decides_variables h vs l.variables_fit l.few_universals l.few_existentials).0 b.1 in
       let low = variables_bound h vs v in
-      left low l v (clauses_have known vs (variables_of (prefix low l v)) (range low l v) (tells low l v) h cs ls refl l.clauses_fit a.1)
+      let declared = variables_of (prefix low l v) in
+      left low l v (clauses_have front declared (front_range l.variables_fit declared (range low l v)) (front_tells l.variables_fit declared (tells low l v)) h vs cs ls refl l.clauses_fit a.1)
 
   -- tables that a reading leaves pass
   module _ (text : List ℕ) (place : ℕ) (l : LeavesFormula text place h vs cs ls) (dqbf : Dqbf) (rest : List Spelt) (read : FormulaWasRead (words_from text place) (length vs) (length cs) (length ls) l.formula dqbf rest) where
@@ -217,12 +235,14 @@ module _ (h : Head) (vs : List Variable) (cs : List Clause) (ls : List Literal) 
 
     left_passes : formula_lawful h vs cs ls ≡ true
     left_passes =
+        let declared = variables_of dqbf.prefix in
         and_from _ _
         (and_from _ _ (are_limits h (length vs) (length cs) left_limits)
         ((decides_variables h vs left_limits.variables_fit left_limits.few_universals left_limits.few_existentials).1 left_variables))
-        (have_clauses known vs (variables_of dqbf.prefix) (λ v m. declared_all Range dqbf.prefix v read_prefix.in_range m)
-        (λ v some most. ap (λ (x : Variable). is_undeclared x.kind) (read_records v some (omega (arith, left_limits.variables_fit))) ∙ record_undeclared v 0 0 dqbf.prefix)
-        h cs ls refl left_matrix)
+        (have_clauses front declared (front_range left_limits.variables_fit declared (λ v m. declared_all Range dqbf.prefix v read_prefix.in_range m))
+        (front_tells left_limits.variables_fit declared
+        (λ v some most. ap (λ (x : Variable). is_undeclared x.kind) (read_records v some (omega (arith, left_limits.variables_fit))) ∙ record_undeclared v 0 0 dqbf.prefix))
+        h vs cs ls refl left_matrix)
 
   pub left_lawful : LeftByAFormulaText h vs cs ls → formula_lawful h vs cs ls ≡ true
   left_lawful (text, place, l) =

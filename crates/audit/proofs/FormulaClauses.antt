@@ -1,8 +1,11 @@
 -- What the audit's tests say of the clauses, and back: the tables hold a lawful matrix.
-use Rattle.std.proofs.Common.{◌≡◌, ℕ, zero, suc, ◌+◌, ◌-◌, ◌≤◌, Bool, true, false, cond, not, ◌&&◌, ◌||◌, eqb, leb, List, [], ◌∷◌, ◌++◌, map, length, take, drop, replicate, Some, None, Option, sym, refl, ap, ◌∙◌, subst, ap₂, add-zero, arith}
+use Rattle.std.proofs.Common.{◌≡◌, ℕ, suc, ◌+◌, ◌-◌, ◌≤◌, Bool, true, false, cond, not, ◌&&◌, eqb, leb, List, [], ◌∷◌, ◌++◌, map, length, take, drop, replicate, Some, None, Option, sym, refl, ap, ◌∙◌, subst, ap₂, add-zero, arith}
+use Rattle.std.specs.Option.{option_map_or}
 use Rattle.std.specs.List.{AllByRecursion}
 use Rattle.std.proofs.ByRecursion.{All-weaker}
-use Rattle.std.proofs.lemmas.List.{append_assoc, append-nil, length-append, length-drop, length-take-le, map-append, take-append-drop, take-take, take_at, drop_at, drop-drop, drop-take}
+use Rattle.std.proofs.lemmas.List.{append_assoc, append-nil, length-append, length-drop, length-take-le, map-append, take_at, drop_at, drop-drop}
+use Rattle.std.proofs.Math.Seq.{take-add}
+use Rattle.std.proofs.lemmas.Option.{none-some, same_Some}
 use Rattle.std.proofs.lemmas.Bool.{and_parts, and_from, cond-true, eqb-true, eq-eqb, leb-true, le-leb, not-true, not-false, not_from_true, not_from_false}
 use Rattle.words.specs.Tables.{padded}
 use Rattle.formula.specs.declared.tables.Clause.{Clause}
@@ -13,55 +16,34 @@ use Rattle.formula.specs.Groups.{variable_at, is_undeclared}
 use Rattle.formula.specs.Clauses.{names}
 use Rattle.formula.specs.Reading.{no_span, no_literal}
 use Rattle.spelling.specs.Dqbf.{member, Distinct, literal_variable, LawfulClause, literals_of, spans_from}
+use Rattle.spelling.proofs.MatrixLaw.{names_member}
 use Rattle.spelling.proofs.PrefixLaws.{distinct_push, distinct_next}
-use Rattle.audit.specs.FormulaAudit.{on_some, clause_lawful, spans_end, zero_spans, zero_span, zero_literals, zero_literal, clauses_lawful}
-use Rattle.audit.proofs.CircuitTables.{table_padded, padded_front, padded_rest}
-use Rattle.audit.proofs.FormulaOwners.{some_same, no_some}
+use Rattle.audit.specs.FormulaAudit.{clause_lawful, spans_end, zero_spans, zero_span, zero_literals, zero_literal, clauses_lawful}
+use Rattle.audit.proofs.CircuitTables.{all_replicate, replicate_all, table_padded, padded_front, padded_rest}
 use Rattle.audit.proofs.FormulaVariables.{on_true}
 
-names_member : (v : ℕ) (ls : List Literal) → names v ls ≡ member v (map literal_variable ls)
-names_member v [] = refl
-names_member v (l ∷ ls) = ap (λ b. eqb l.variable v || b) (names_member v ls)
-
 -- a literal of a variable that the records declare
-abbrev Named : ℕ → List Variable → Literal → Type 0
-Named known vs l = (1 ≤ l.variable) × (l.variable ≤ known) × (is_undeclared (variable_at vs l.variable).kind ≡ false)
-
--- parts of lists
-take_add : {X : Type 0} (m n : ℕ) (xs : List X) → take (m + n) xs ≡ take m xs ++ take n (drop m xs)
-take_add m n xs =
-    sym (take-append-drop m (take (m + n) xs)) ∙ ap₂ ◌++◌ (take-take m (m + n) xs (omega arith)) (drop-take m n xs)
+abbrev Named : List Variable → Literal → Type 0
+Named vs l = (1 ≤ l.variable) × (l.variable ≤ length vs) × (is_undeclared (variable_at vs l.variable).kind ≡ false)
 
 cond_goes : {X : Type 0} (b : Bool) (m : Option X) (y : X) → cond b m None ≡ Some y → (b ≡ true) × (m ≡ Some y)
 cond_goes true m y e = (refl, e)
-cond_goes false m y e = absurd (no_some y e)
+cond_goes false m y e = absurd (none-some y e)
 
 length_spans : (at : ℕ) (m : List (List Literal)) → length (spans_from at m) ≡ length m
 length_spans at [] = refl
 length_spans at (c ∷ m) = ap suc (length_spans (at + length c) m)
 
 -- zeros
-spans_zero : (ss : List Clause) → zero_spans ss ≡ true → ss ≡ replicate (length ss) no_span
-spans_zero [] e = refl
-spans_zero (s ∷ ss) e =
-    let a = and_parts (zero_span s) (zero_spans ss) e in
-    let b = and_parts (eqb s.first 0) (eqb s.len 0) a.0 in
-    ap₂ ◌∷◌ (ap₂ (λ (x y : ℕ). record { first = x; len = y }) (eqb-true s.first 0 b.0) (eqb-true s.len 0 b.1)) (spans_zero ss a.1)
+span_zero : (s : Clause) → zero_span s ≡ true → s ≡ no_span
+span_zero s e =
+    let a = and_parts (eqb s.first 0) (eqb s.len 0) e in
+    ap₂ (λ (x y : ℕ). record { first = x; len = y }) (eqb-true s.first 0 a.0) (eqb-true s.len 0 a.1)
 
-zeros_spans : (n : ℕ) → zero_spans (replicate n no_span) ≡ true
-zeros_spans zero = refl
-zeros_spans (suc n) = zeros_spans n
-
-literals_zero : (ls : List Literal) → zero_literals ls ≡ true → ls ≡ replicate (length ls) no_literal
-literals_zero [] e = refl
-literals_zero (l ∷ ls) e =
-    let a = and_parts (zero_literal l) (zero_literals ls) e in
-    let b = and_parts (eqb l.variable 0) (not l.negative) a.0 in
-    ap₂ ◌∷◌ (ap₂ (λ (x : ℕ) (y : Bool). record { variable = x; negative = y }) (eqb-true l.variable 0 b.0) (not-true l.negative b.1)) (literals_zero ls a.1)
-
-zeros_literals : (n : ℕ) → zero_literals (replicate n no_literal) ≡ true
-zeros_literals zero = refl
-zeros_literals (suc n) = zeros_literals n
+literal_zero : (l : Literal) → zero_literal l ≡ true → l ≡ no_literal
+literal_zero l e =
+    let a = and_parts (eqb l.variable 0) (not l.negative) e in
+    ap₂ (λ (x : ℕ) (y : Bool). record { variable = x; negative = y }) (eqb-true l.variable 0 a.0) (not-true l.negative a.1)
 
 -- the clauses that spans cut out, the first from `at`
 abbrev matrix_of : ℕ → List Clause → List Literal → List (List Literal)
@@ -84,54 +66,54 @@ pub record MatrixHeld (h : Head) (cs : List Clause) (ls : List Literal) (declare
   pub fits : length (literals_of matrix) ≤ length ls
 
 -- one clause
-module _ (known : ℕ) (vs : List Variable) where
-  clause_is : (done ls : List Literal) → clause_lawful known vs done ls ≡ true → Distinct (map literal_variable done) → Distinct (map literal_variable (done ++ ls)) × AllByRecursion (Named known vs) ls
+module _ (vs : List Variable) where
+  clause_is : (done ls : List Literal) → clause_lawful vs done ls ≡ true → Distinct (map literal_variable done) → Distinct (map literal_variable (done ++ ls)) × AllByRecursion (Named vs) ls
   clause_is done [] e d = (subst (λ (x : List Literal). Distinct (map literal_variable x)) (sym (append-nil done)) d, tt)
   clause_is done (l ∷ ls) e d =
       let v = l.variable in
-      let a = and_parts _ (clause_lawful known vs (done ++ l ∷ []) ls) e in
+      let a = and_parts _ (clause_lawful vs (done ++ l ∷ []) ls) e in
       let b = and_parts _ (not (names v done)) a.0 in
-      let c = and_parts (leb 1 v && leb v known) (not (is_undeclared (variable_at vs v).kind)) b.0 in
-      let f = and_parts (leb 1 v) (leb v known) c.0 in
+      let c = and_parts (leb 1 v && leb v (length vs)) (not (is_undeclared (variable_at vs v).kind)) b.0 in
+      let f = and_parts (leb 1 v) (leb v (length vs)) c.0 in
       let new : member v (map literal_variable done) ≡ false = sym (names_member v done) ∙ not-true (names v done) b.1 in
       let pushed = subst Distinct (sym (map-append literal_variable done (l ∷ []))) (distinct_push (map literal_variable done) v d new) in
       let rest = clause_is (done ++ l ∷ []) ls a.1 pushed in (
         subst (λ (x : List Literal). Distinct (map literal_variable x)) (append_assoc done (l ∷ []) ls) rest.0,
-        ((leb-true 1 v f.0, leb-true v known f.1, not-true (is_undeclared (variable_at vs v).kind) c.1), rest.1),
+        ((leb-true 1 v f.0, leb-true v (length vs) f.1, not-true (is_undeclared (variable_at vs v).kind) c.1), rest.1),
       )
 
-  is_clause : (done ls : List Literal) → Distinct (map literal_variable (done ++ ls)) → AllByRecursion (Named known vs) ls → clause_lawful known vs done ls ≡ true
+  is_clause : (done ls : List Literal) → Distinct (map literal_variable (done ++ ls)) → AllByRecursion (Named vs) ls → clause_lawful vs done ls ≡ true
   is_clause done [] d h = refl
   is_clause done (l ∷ ls) d ((low, high, declared), h) =
       let v = l.variable in
       let new : names v done ≡ false = names_member v done ∙ distinct_next (map literal_variable done) v (map literal_variable ls) (subst Distinct (map-append literal_variable done (l ∷ ls)) d) in
       and_from _ _
       (and_from _ _
-      (and_from _ _ (and_from _ _ (le-leb 1 v low) (le-leb v known high)) (not_from_false (is_undeclared (variable_at vs v).kind) declared))
+      (and_from _ _ (and_from _ _ (le-leb 1 v low) (le-leb v (length vs) high)) (not_from_false (is_undeclared (variable_at vs v).kind) declared))
       (not_from_false (names v done) new))
       (is_clause (done ++ l ∷ []) ls (subst (λ (x : List Literal). Distinct (map literal_variable x)) (sym (append_assoc done (l ∷ []) ls)) d) h)
 
   -- where the records tell which variables are declared
-  module _ (declared : List ℕ) (range : (v : ℕ) → member v declared ≡ true → (1 ≤ v) × (v ≤ known)) (tells : (v : ℕ) → 1 ≤ v → v ≤ known → is_undeclared (variable_at vs v).kind ≡ not (member v declared)) where
-    clause_has : (c : List Literal) → length c ≤ 1024 → clause_lawful known vs [] c ≡ true → LawfulClause declared c
+  module _ (declared : List ℕ) (range : (v : ℕ) → member v declared ≡ true → (1 ≤ v) × (v ≤ length vs)) (tells : (v : ℕ) → 1 ≤ v → v ≤ length vs → is_undeclared (variable_at vs v).kind ≡ not (member v declared)) where
+    clause_has : (c : List Literal) → length c ≤ 1024 → clause_lawful vs [] c ≡ true → LawfulClause declared c
     clause_has c few e =
         let (d, h) = clause_is [] c e tt in
-        (few, d, All-weaker (Named known vs) (λ l. member l.variable declared ≡ true) (λ l n. not-false (member l.variable declared) (sym (tells l.variable n.0 n.1) ∙ n.2)) c h)
+        (few, d, All-weaker (Named vs) (λ l. member l.variable declared ≡ true) (λ l n. not-false (member l.variable declared) (sym (tells l.variable n.0 n.1) ∙ n.2)) c h)
 
-    has_clause : (c : List Literal) → LawfulClause declared c → clause_lawful known vs [] c ≡ true
+    has_clause : (c : List Literal) → LawfulClause declared c → clause_lawful vs [] c ≡ true
     has_clause c (few, d, h) =
         is_clause [] c d
-        (All-weaker (λ l. member l.variable declared ≡ true) (Named known vs)
+        (All-weaker (λ l. member l.variable declared ≡ true) (Named vs)
         (λ l m. let (low, high) = range l.variable m in (low, high, tells l.variable low high ∙ not_from_true (member l.variable declared) m)) c h)
 
-    spans_has : (at : ℕ) (ss : List Clause) (ls : List Literal) (end : ℕ) → at ≤ length ls → spans_end known vs at ss ls ≡ Some end → Cut at ss ls end declared
+    spans_has : (at : ℕ) (ss : List Clause) (ls : List Literal) (end : ℕ) → at ≤ length ls → spans_end vs at ss ls ≡ Some end → Cut at ss ls end declared
     spans_has at [] ls end inside e =
-        let same : at ≡ end = some_same at end e in
+        let same : at ≡ end = same_Some at end e in
         record { within = omega arith; spans = refl; literals = append-nil (take at ls) ∙ ap (λ n. take n ls) same; lawful = tt }
     spans_has at (s ∷ ss) ls end inside e =
         let c = take s.len (drop at ls) in
-        let (t, go) = cond_goes (eqb s.first at && leb s.len 1024 && leb s.len (length ls - at) && clause_lawful known vs [] c) (spans_end known vs (at + s.len) ss ls) end e in
-        let a = and_parts (eqb s.first at && leb s.len 1024 && leb s.len (length ls - at)) (clause_lawful known vs [] c) t in
+        let (t, go) = cond_goes (eqb s.first at && leb s.len 1024 && leb s.len (length ls - at) && clause_lawful vs [] c) (spans_end vs (at + s.len) ss ls) end e in
+        let a = and_parts (eqb s.first at && leb s.len 1024 && leb s.len (length ls - at)) (clause_lawful vs [] c) t in
         let b = and_parts (eqb s.first at && leb s.len 1024) (leb s.len (length ls - at)) a.0 in
         let f = and_parts (eqb s.first at) (leb s.len 1024) b.0 in
         let first = eqb-true s.first at f.0 in
@@ -143,11 +125,11 @@ module _ (known : ℕ) (vs : List Variable) where
         record {
           within = rest.within;
           spans = ap₂ ◌∷◌ (ap₂ (λ (x y : ℕ). record { first = x; len = y }) (sym first) long) (ap (λ n. spans_from (at + n) m) long ∙ rest.spans);
-          literals = sym (append_assoc (take at ls) c (literals_of m)) ∙ ap (λ l. l ++ literals_of m) (sym (take_add at s.len ls)) ∙ rest.literals;
+          literals = sym (append_assoc (take at ls) c (literals_of m)) ∙ ap (λ l. l ++ literals_of m) (sym (take-add at s.len ls)) ∙ rest.literals;
           lawful = (clause_has c (omega arith) a.1, rest.lawful);
         }
 
-    has_spans : (at : ℕ) (m : List (List Literal)) (ls tail : List Literal) → at ≤ length ls → drop at ls ≡ literals_of m ++ tail → AllByRecursion (LawfulClause declared) m → spans_end known vs at (spans_from at m) ls ≡ Some (at + length (literals_of m))
+    has_spans : (at : ℕ) (m : List (List Literal)) (ls tail : List Literal) → at ≤ length ls → drop at ls ≡ literals_of m ++ tail → AllByRecursion (LawfulClause declared) m → spans_end vs at (spans_from at m) ls ≡ Some (at + length (literals_of m))
     has_spans at [] ls tail inside e h = ap (λ (n : ℕ). Some n) (sym (add-zero at))
     has_spans at (c ∷ m) ls tail inside e (lawful, h) =
         let back = literals_of m ++ tail in
@@ -159,14 +141,14 @@ module _ (known : ℕ) (vs : List Variable) where
         cond-true _ _ None
         (and_from _ _
         (and_from _ _ (and_from _ _ (eq-eqb at at refl) (le-leb (length c) 1024 lawful.0)) (le-leb (length c) (length ls - at) (omega arith)))
-        (ap (clause_lawful known vs []) front ∙ has_clause c lawful))
+        (ap (clause_lawful vs []) front ∙ has_clause c lawful))
         ∙ has_spans (at + length c) m ls tail (omega arith) next h
         ∙ ap (λ (n : ℕ). Some n) sum
 
-    pub clauses_have : (h : Head) (cs : List Clause) (ls : List Literal) → h.variables ≡ known → h.clauses ≤ length cs → clauses_lawful h vs cs ls ≡ true → MatrixHeld h cs ls declared
-    clauses_have h cs ls same fits e =
-        let (end, run, tests) = on_true (spans_end h.variables vs 0 (take h.clauses cs) ls) _ e in
-        let cut = spans_has 0 (take h.clauses cs) ls end (omega arith) (ap (λ n. spans_end n vs 0 (take h.clauses cs) ls) (sym same) ∙ run) in
+    pub clauses_have : (h : Head) (all : List Variable) (cs : List Clause) (ls : List Literal) → take h.variables all ≡ vs → h.clauses ≤ length cs → clauses_lawful h all cs ls ≡ true → MatrixHeld h cs ls declared
+    clauses_have h all cs ls same fits e =
+        let (end, run, tests) = on_true (spans_end (take h.variables all) 0 (take h.clauses cs) ls) _ e in
+        let cut = spans_has 0 (take h.clauses cs) ls end (omega arith) (ap (λ x. spans_end x 0 (take h.clauses cs) ls) (sym same) ∙ run) in
         let m = matrix_of 0 (take h.clauses cs) ls in
         let a = and_parts (zero_spans (drop h.clauses cs)) (zero_literals (drop end ls)) tests in
         let count : length (take h.clauses cs) ≡ h.clauses = length-take-le h.clauses cs fits in
@@ -175,21 +157,21 @@ module _ (known : ℕ) (vs : List Variable) where
           matrix = m;
           count = sym (length_spans 0 m) ∙ ap length cut.spans ∙ count;
           lawful = cut.lawful;
-          clauses = table_padded no_span cs h.clauses fits (spans_zero (drop h.clauses cs) a.0) ∙ ap (λ (l : List Clause). padded no_span l (length cs)) (sym cut.spans);
-          literals = table_padded no_literal ls end cut.within (literals_zero (drop end ls) a.1) ∙ ap (λ (l : List Literal). padded no_literal l (length ls)) (sym cut.literals);
+          clauses = table_padded no_span cs h.clauses fits (all_replicate zero_span no_span span_zero (drop h.clauses cs) a.0) ∙ ap (λ (l : List Clause). padded no_span l (length cs)) (sym cut.spans);
+          literals = table_padded no_literal ls end cut.within (all_replicate zero_literal no_literal literal_zero (drop end ls) a.1) ∙ ap (λ (l : List Literal). padded no_literal l (length ls)) (sym cut.literals);
           fits = omega (arith, long, cut.within);
         }
 
-    pub have_clauses : (h : Head) (cs : List Clause) (ls : List Literal) → h.variables ≡ known → MatrixHeld h cs ls declared → clauses_lawful h vs cs ls ≡ true
-    have_clauses h cs ls same w =
+    pub have_clauses : (h : Head) (all : List Variable) (cs : List Clause) (ls : List Literal) → take h.variables all ≡ vs → MatrixHeld h cs ls declared → clauses_lawful h all cs ls ≡ true
+    have_clauses h all cs ls same w =
         let m = w.matrix in
         let count : length (spans_from 0 m) ≡ h.clauses = length_spans 0 m ∙ w.count in
         let front = padded_front no_span cs (spans_from 0 m) (length cs) h.clauses count w.clauses in
         let back = padded_rest no_span cs (spans_from 0 m) (length cs) h.clauses count w.clauses in
         let behind = padded_rest no_literal ls (literals_of m) (length ls) (0 + length (literals_of m)) (omega arith) w.literals in
-        let run : spans_end h.variables vs 0 (take h.clauses cs) ls ≡ Some (0 + length (literals_of m)) =
-        ap₂ (λ (n : ℕ) (ss : List Clause). spans_end n vs 0 ss ls) same front ∙ has_spans 0 m ls (replicate (length ls - length (literals_of m)) no_literal) (omega arith) w.literals w.lawful in
-        ap (λ (x : Option ℕ). on_some x false (λ end. zero_spans (drop h.clauses cs) && zero_literals (drop end ls))) run
+        let run : spans_end (take h.variables all) 0 (take h.clauses cs) ls ≡ Some (0 + length (literals_of m)) =
+        ap₂ (λ (x : List Variable) (ss : List Clause). spans_end x 0 ss ls) same front ∙ has_spans 0 m ls (replicate (length ls - length (literals_of m)) no_literal) (omega arith) w.literals w.lawful in
+        ap (λ (x : Option ℕ). option_map_or (λ end. zero_spans (drop h.clauses cs) && zero_literals (drop end ls)) x false) run
         ∙ and_from _ _
-        (ap zero_spans back ∙ zeros_spans (length cs - length (spans_from 0 m)))
-        (ap zero_literals behind ∙ zeros_literals (length ls - length (literals_of m)))
+        (ap zero_spans back ∙ replicate_all zero_span no_span refl (length cs - length (spans_from 0 m)))
+        (ap zero_literals behind ∙ replicate_all zero_literal no_literal refl (length ls - length (literals_of m)))

@@ -8,13 +8,13 @@ use Rattle.words.specs.Words.{Spelt}
 use Rattle.formula.specs.declared.tables.Head.{Head}
 use Rattle.formula.specs.declared.tables.Kind.{Kind}
 use Rattle.formula.specs.declared.tables.Variable.{Variable}
-use Rattle.formula.specs.Groups.{no_variable, variable_at, is_universal}
+use Rattle.formula.specs.Groups.{no_variable, variable_at, is_universal, is_existential}
 use Rattle.spelling.specs.Dqbf.{Declaration, Dqbf, universals_of, existentials_of, member, record_of}
 use Rattle.spelling.specs.FormulaGrammar.{Spells}
 use Rattle.spelling.specs.FormulaGrammar.Spells.{spells}
 use Rattle.spelling.proofs.PrefixLaws.{LawfulPrefix, Stands, variables_of, record_none, universal_place, place_universal}
 use Rattle.audit.specs.FormulaAudit.{undeclared}
-use Rattle.audit.proofs.FormulaOwners.{is_existential, Plain}
+use Rattle.audit.proofs.FormulaOwners.{Plain}
 use Rattle.audit.proofs.FormulaVariables.{each_passes, Listed, Variables}
 use Rattle.audit.proofs.FormulaPlaces.{existential_place, place_existential, universals_all, existentials_all, declared_all, Within, groups_within, nothing_inside, record_plain}
 

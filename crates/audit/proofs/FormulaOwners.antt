@@ -1,19 +1,19 @@
 -- The owners of positions, as the audit enters them record by record.
-use Rattle.std.proofs.Common.{◌≡◌, ℕ, suc, ◌+◌, ◌<◌, ◌≤◌, Bool, true, false, cond, ◌&&◌, eqb, leb, ◌⊎◌, List, [], ◌∷◌, length, get_or, set, replicate, Some, None, Option, sym, refl, ap, ◌∙◌, subst, inl, inr, ⊎_elim, add-zero, arith}
-use Rattle.std.proofs.lemmas.List.{get_or-replicate, get_or_past, get_or-set_same, get_or-set_other, length-replicate, length-set}
-use Rattle.std.proofs.lemmas.Bool.{both_ways, cases_eq, cases_lt, and_parts, leb-true, eqb-true}
+use Rattle.std.proofs.Common.{◌≡◌, ℕ, suc, ◌+◌, ◌<◌, ◌≤◌, Bool, true, false, ◌&&◌, eqb, leb, ◌⊎◌, List, [], ◌∷◌, length, get_or, set, replicate, Some, None, Option, sym, refl, ap, ◌∙◌, subst, inl, inr, ⊎_elim, add-zero, arith}
+use Rattle.std.specs.Option.{option_and_then}
+use Rattle.std.proofs.lemmas.List.{get_or-set_same, get_or-set_other, length-replicate, length-set}
+use Rattle.std.proofs.lemmas.Option.{cond_some, none-some, same_Some}
+use Rattle.std.proofs.lemmas.Bool.{both_ways, cases_eq, and_parts, leb-true, eqb-true}
 use Rattle.base.specs.Words.{empty_word, first_word, within_word}
 use Rattle.formula.specs.declared.tables.Head.{Head}
 use Rattle.formula.specs.declared.tables.Kind.{Kind}
 use Rattle.formula.specs.declared.tables.Kind.TheVariants as kind
 use Rattle.formula.specs.declared.tables.Variable.{Variable}
 use Rattle.formula.specs.Groups.{no_variable, is_universal}
-use Rattle.audit.specs.FormulaAudit.{Owners, owners, free, owns, owns_by, on_some, records_own}
-
-abbrev pub is_existential : Kind → Bool
-is_existential kind.Undeclared = false
-is_existential kind.Universal = false
-is_existential kind.Existential = true
+use Rattle.formula.specs.Groups.{is_existential}
+use Rattle.audit.specs.declared.formulas.Owners.{Owners}
+use Rattle.audit.specs.FormulaAudit.{owners, free, owns, owns_by, records_own}
+use Rattle.words.proofs.TableLaws.{get_or_zeros}
 
 -- w is a variable below v of a kind, and has position k
 abbrev pub Owner : (Kind → Bool) → (ℕ → Variable) → ℕ → ℕ → ℕ → Type 0
@@ -28,15 +28,8 @@ pub record Table (of : Kind → Bool) (r : ℕ → Variable) (n v : ℕ) (os : L
   pub from : (k : ℕ) → (get_or os k 0 ≡ 0) ⊎ Owner of r v k (get_or os k 0)
   pub to : (w : ℕ) → 1 ≤ w → w < v → of (r w).kind ≡ true → Entered n os w (r w).position
 
-get_or_zeros : (m k : ℕ) → ◌≡◌ {A = ℕ} (get_or (replicate m 0) k 0) 0
-get_or_zeros m k =
-    ⊎_elim
-    (λ h. get_or-replicate m k 0 0 h)
-    (λ h. get_or_past (replicate m 0) k 0 (omega (arith, length-replicate {A = ℕ} m 0)))
-    (cases_lt k m)
-
 pub table_start : (of : Kind → Bool) (r : ℕ → Variable) (n m : ℕ) → Table of r n 1 (replicate m 0)
-table_start of r n m = record { from = λ k. inl (get_or_zeros m k); to = λ w low high is. absurd (omega arith) }
+table_start of r n m = record { from = λ k. inl (get_or_zeros {X = ℕ} 0 m k); to = λ w low high is. absurd (omega arith) }
 
 module _ (of : Kind → Bool) (r : ℕ → Variable) (n v : ℕ) (os : List ℕ) (t : Table of r n v os) where
   owner_more : (k w : ℕ) → (w ≡ 0) ⊎ Owner of r v k w → (w ≡ 0) ⊎ Owner of r (v + 1) k w
@@ -111,18 +104,8 @@ owned_start h r few_universals few_existentials =
       existentials_long = omega (arith, length-replicate {A = ℕ} 4097 0);
     }
 
-pub some_same : {X : Type 0} (x y : X) → Some x ≡ Some y → x ≡ y
-some_same x y e = cc
-
-pub no_some : {X : Type 0} (y : X) → ◌≡◌ {A = Option X} None (Some y) → ⊥
-no_some y e = let z : ◌≡◌ {A = ℕ} 0 1 = cc in omega arith
-
-cond_some : {X : Type 0} (b : Bool) (x y : X) → cond b (Some x) None ≡ Some y → (b ≡ true) × (x ≡ y)
-cond_some true x y e = (refl, some_same x y e)
-cond_some false x y e = absurd (no_some y e)
-
-pub some_cases : {X Y : Type 0} (m : Option X) (f : X → Option Y) (y : Y) → on_some m None f ≡ Some y → (x : X) × (m ≡ Some x) × (f x ≡ Some y)
-some_cases None f y e = absurd (no_some y e)
+pub some_cases : {X Y : Type 0} (m : Option X) (f : X → Option Y) (y : Y) → option_and_then f m ≡ Some y → (x : X) × (m ≡ Some x) × (f x ≡ Some y)
+some_cases None f y e = absurd (none-some y e)
 some_cases (Some x) f y e = (x, refl, e)
 
 -- one more record
@@ -187,7 +170,7 @@ says_rest r v x xs says j h = let shift : v + suc j ≡ v + 1 + j = omega arith 
 -- all records
 pub owned_all : (h : Head) (r : ℕ → Variable) (v : ℕ) (xs : List Variable) (o o' : Owners) → Says r v xs → 1 ≤ v → Owned h r v o → records_own h v xs o ≡ Some o' → Owned h r (v + length xs) o'
 owned_all h r v [] o o' says some w e =
-    subst (λ (k : ℕ). Owned h r k o') (sym (add-zero v)) (subst (Owned h r v) (some_same o o' e) w)
+    subst (λ (k : ℕ). Owned h r k o') (sym (add-zero v)) (subst (Owned h r v) (same_Some o o' e) w)
 owned_all h r v (x ∷ xs) o o' says some w e =
     let (q, first, rest) = some_cases (owns h v x o) (λ p. records_own h (v + 1) xs p) o' e in
     let is = says_first r v x xs says in
@@ -202,4 +185,4 @@ own_all h r v (x ∷ xs) o says some w next =
     let is = says_first r v x xs says in
     let (q, e) = next v o some (omega arith) w in
     let (o', rest) = own_all h r (v + 1) xs q (says_rest r v x xs says) (omega arith) (owned_more h r v o q some w e) (λ u p low high. next u p low (omega arith)) in
-    (o', ap (λ (m : Option Owners). on_some m None (λ p. records_own h (v + 1) xs p)) (ap (λ (y : Variable). owns h v y o) is ∙ e) ∙ rest)
+    (o', ap (λ (m : Option Owners). option_and_then (λ p. records_own h (v + 1) xs p) m) (ap (λ (y : Variable). owns h v y o) is ∙ e) ∙ rest)

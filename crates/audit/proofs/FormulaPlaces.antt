@@ -11,12 +11,12 @@ use Rattle.words.specs.Words.{Spelt}
 use Rattle.formula.specs.declared.tables.Head.{Head}
 use Rattle.formula.specs.declared.tables.Kind.TheVariants as kind
 use Rattle.formula.specs.declared.tables.Variable.{Variable}
-use Rattle.formula.specs.Groups.{no_variable}
+use Rattle.formula.specs.Groups.{no_variable, is_existential}
 use Rattle.spelling.specs.Dqbf.{Declaration, universal, existential, variable_of, universals_of, existentials_of, member, Distinct, record_from, record_of}
 use Rattle.spelling.specs.FormulaGrammar.{Groups, Depends}
 use Rattle.spelling.specs.FormulaGrammar.Groups.{none, a_group, e_group, d_group}
 use Rattle.spelling.proofs.PrefixLaws.{Stands, variables_of, universals_append, member_get_or, place_once}
-use Rattle.audit.proofs.FormulaOwners.{is_existential, PlainBy}
+use Rattle.audit.proofs.FormulaOwners.{PlainBy}
 use Rattle.audit.proofs.FormulaPrefix.{Positions}
 
 -- existentials as PrefixLaws has universals

@@ -11,11 +11,11 @@ use Rattle.formula.specs.declared.tables.Head.{Head}
 use Rattle.formula.specs.declared.tables.Kind.{Kind}
 use Rattle.formula.specs.declared.tables.Kind.TheVariants as kind
 use Rattle.formula.specs.declared.tables.Variable.{Variable}
-use Rattle.formula.specs.Groups.{no_variable, variable_at, is_undeclared, is_universal}
+use Rattle.formula.specs.Groups.{no_variable, variable_at, is_undeclared, is_universal, is_existential}
 use Rattle.spelling.specs.Dqbf.{Declaration, universal, existential, variable_of, universals_of, existentials_of, member, Distinct, record_from, record_of}
 use Rattle.spelling.proofs.PrefixLaws.{LawfulPrefix, Stands, variables_of, universals_append, existentials_append, member_append, member_get_or, record_none, record_kept, record_new}
 use Rattle.audit.specs.FormulaAudit.{undeclared}
-use Rattle.audit.proofs.FormulaOwners.{is_existential, Owner, PlainBy}
+use Rattle.audit.proofs.FormulaOwners.{Owner, PlainBy}
 use Rattle.audit.proofs.FormulaVariables.{each_passes, Listed, Variables}
 
 -- numbers in a list

@@ -1,6 +1,7 @@
 -- What the audit's tests say of the records, and back: the variables of each kind, in the order of their positions.
 use Rattle.std.proofs.Common.{◌≡◌, ℕ, ◌+◌, ◌-◌, ◌<◌, ◌≤◌, Bool, true, false, not, ◌&&◌, eqb, leb, List, length, get_or, take, drop, set, replicate, Some, None, Decides, Option, sym, refl, ap, ◌∙◌, subst, ⊎_elim, arith}
-use Rattle.std.specs.List.{AllByRecursion}
+use Rattle.std.specs.Option.{option_map_or}
+use Rattle.std.specs.List.{AllByRecursion, list_all}
 use Rattle.std.proofs.ByRecursion.{All-get_or, All-from_get_or, Decides-by_and}
 use Rattle.std.proofs.lemmas.List.{get_or-take, get_or-drop, length-take-le, length-drop}
 use Rattle.std.proofs.lemmas.Bool.{and_parts, and_from, cond-true, eq-eqb, eqb-false, false≢true, le-leb, ne_eqb, not-true, not_from_false}
@@ -9,15 +10,15 @@ use Rattle.formula.specs.declared.tables.Head.{Head}
 use Rattle.formula.specs.declared.tables.Kind.{Kind}
 use Rattle.formula.specs.declared.tables.Kind.TheVariants as kind
 use Rattle.formula.specs.declared.tables.Variable.{Variable}
-use Rattle.formula.specs.Groups.{no_variable, variable_at, is_universal}
+use Rattle.formula.specs.Groups.{no_variable, variable_at, is_universal, is_existential}
 use Rattle.spelling.proofs.PrefixLaws.{Stands}
-use Rattle.audit.specs.Each.{each}
-use Rattle.audit.specs.FormulaAudit.{Owners, owners, free, owns_by, on_some, records_own, all_owned, undeclared_all, variables_lawful}
-use Rattle.audit.proofs.FormulaOwners.{is_existential, Owner, Table, PlainBy, Plain, Owned, owned_start, Says, owned_all, own_all}
+use Rattle.audit.specs.declared.formulas.Owners.{Owners}
+use Rattle.audit.specs.FormulaAudit.{owners, free, owns_by, records_own, all_owned, undeclared_all, variables_lawful}
+use Rattle.audit.proofs.FormulaOwners.{Owner, Table, PlainBy, Plain, Owned, owned_start, Says, owned_all, own_all}
 
 -- a test that each entry passes
-pub each_passes : {X : Type 0} (test : X → Bool) (xs : List X) → Decides (each test xs) (AllByRecursion (λ x. test x ≡ true) xs)
-each_passes test xs = Decides-by_and test (λ x. test x ≡ true) (each test) (λ x. (λ e. e, λ e. e)) refl (λ _ _. refl) xs
+pub each_passes : {X : Type 0} (test : X → Bool) (xs : List X) → Decides (list_all test xs) (AllByRecursion (λ x. test x ≡ true) xs)
+each_passes test xs = Decides-by_and test (λ x. test x ≡ true) (list_all test) (λ x. (λ e. e, λ e. e)) refl (λ _ _. refl) xs
 
 -- The variables up to `known` of a kind, in the order of their positions.
 pub record Listed (of : Kind → Bool) (r : ℕ → Variable) (known : ℕ) (us : List ℕ) : Type 0 where
@@ -95,7 +96,7 @@ pub record Variables (h : Head) (vs : List Variable) : Type 0 where
   pub plain : (w : ℕ) → 1 ≤ w → w ≤ h.variables → Plain h (variable_at vs w)
   pub rest : undeclared_all (drop h.variables vs) ≡ true
 
-pub on_true : {X : Type 0} (m : Option X) (f : X → Bool) → on_some m false f ≡ true → (x : X) × (m ≡ Some x) × (f x ≡ true)
+pub on_true : {X : Type 0} (m : Option X) (f : X → Bool) → option_map_or f m false ≡ true → (x : X) × (m ≡ Some x) × (f x ≡ true)
 on_true None f e = absurd (false≢true e)
 on_true (Some x) f e = (x, refl, e)
 
@@ -162,7 +163,7 @@ module _ (h : Head) (vs : List Variable) (fits : h.variables ≤ length vs) (few
     are_variables =
         let (o, run) = own_all h r 1 front start says (omega arith) (owned_start h r few_universals few_existentials) (λ v p low high w. next_by (r v).kind v p low (omega (arith, count)) w refl) in
         let w = finished o run in
-        ap (λ (m : Option Owners). on_some m false (λ p. all_owned (positions h.universals p.universals) && all_owned (positions h.existentials p.existentials) && undeclared_all (drop known vs))) run
+        ap (λ (m : Option Owners). option_map_or (λ p. all_owned (positions h.universals p.universals) && all_owned (positions h.existentials p.existentials) && undeclared_all (drop known vs)) m false) run
         ∙ and_from _ _
         (and_from _ _
         (owned h.universals o.universals w.universals_long is_universal r known w.universals a.universals a.universals_count a.universals_listed)

@@ -1,4 +1,4 @@
-pub mod EachLaws
+pub mod Undeclared
 pub mod TurnLaws
 pub mod CircuitTables
 pub mod CircuitTexts

@@ -1,11 +1,10 @@
 -- Circuit tables that an accepted reading leaves.
-use Rattle.std.specs.Prelude.{◌≡◌, ℕ, ◌+◌, ◌*◌, ◌<◌, Bool, true, ◌&&◌, ltb, List, [], ◌∷◌, length, take, drop, Ok, ◌==◌, nat_eq, nat_le, nat_lt}
-use Rattle.std.specs.List.{AllByRecursion}
+use Rattle.std.specs.Prelude.{◌≡◌, ℕ, ◌+◌, ◌*◌, ◌<◌, Bool, ◌&&◌, List, length, take, drop, Ok, ◌==◌, nat_le, nat_lt}
+use Rattle.std.specs.List.{AllByRecursion, enumerate_from, list_all}
 use Rattle.words.specs.Words.{words_from}
 use Rattle.words.specs.Tables.{padded}
 use Rattle.circuit.specs.declared.tables.CircuitHead.{CircuitHead}
 use Rattle.circuit.specs.declared.tables.Gate.{Gate}
-use Rattle.audit.specs.Each.{each}
 use Rattle.circuit.specs.Reading.{Circuit, no_gate, parts_from}
 
 -- what the audit computes: limits, literals in range, zeros behind the entries
@@ -15,20 +14,23 @@ counts_lawful h outputs gates =
     && nat_le h.outputs outputs && nat_le h.gates gates
 
 abbrev pub outputs_lawful : ℕ → List ℕ → Bool
-outputs_lawful bound os = each (λ o. ltb o bound) os
+outputs_lawful bound os = list_all (λ o. nat_lt o bound) os
+
+-- a gate with its number, from 0, has right literals below its own, which for the first gate is 2(i + 1)
+abbrev pub below_own : ℕ → ℕ × Gate → Bool
+below_own i p = nat_lt p.1.left (2 * (i + p.0 + 1)) && nat_lt p.1.right (2 * (i + p.0 + 1))
 
 abbrev pub gates_lawful : ℕ → List Gate → Bool
-gates_lawful i [] = true
-gates_lawful i (g ∷ gs) = nat_lt g.left (2 * (i + 1)) && nat_lt g.right (2 * (i + 1)) && gates_lawful (i + 1) gs
+gates_lawful i gs = list_all (below_own i) (enumerate_from 0 gs)
 
 abbrev pub zero_outputs : List ℕ → Bool
-zero_outputs os = each (λ o. nat_eq o 0) os
+zero_outputs os = list_all (λ o. o == 0) os
 
 abbrev pub zero_gate : Gate → Bool
 zero_gate g = g.left == 0 && g.right == 0
 
 abbrev pub zero_gates : List Gate → Bool
-zero_gates gs = each zero_gate gs
+zero_gates gs = list_all zero_gate gs
 
 abbrev pub circuit_lawful : CircuitHead → List ℕ → List Gate → Bool
 circuit_lawful h os gs =

@@ -1,6 +1,7 @@
 -- Formula tables that an accepted reading leaves.
 use Rattle.std.specs.Prelude.{◌≡◌, ℕ, ◌+◌, ◌-◌, ◌<◌, Bool, true, false, cond, not, ◌&&◌, List, [], ◌∷◌, ◌++◌, length, take, drop, replicate, Some, None, Ok, Option, ◌==◌, nat_le, slice_index, slice_set}
-use Rattle.std.specs.List.{AllByRecursion}
+use Rattle.std.specs.Option.{option_and_then, option_map_or}
+use Rattle.std.specs.List.{AllByRecursion, list_all}
 use Rattle.base.specs.Words.{empty_word, first_word, within_word}
 use Rattle.words.specs.Words.{words_from}
 use Rattle.words.specs.Tables.{padded}
@@ -12,25 +13,16 @@ use Rattle.formula.specs.declared.tables.Literal.{Literal}
 use Rattle.formula.specs.declared.tables.Variable.{Variable}
 use Rattle.formula.specs.Groups.{variable_at, is_undeclared}
 use Rattle.formula.specs.Clauses.{names}
-use Rattle.audit.specs.Each.{each}
 use Rattle.formula.specs.Reading.{Formula, no_span, no_literal, parts_from}
+use Rattle.audit.specs.declared.formulas.Owners.{Owners}
 
 abbrev pub head_lawful : Head → ℕ → ℕ → Bool
 head_lawful h variables clauses =
     nat_le 1 h.variables && nat_le h.variables 65535 && nat_le h.variables variables && nat_le h.clauses 16384 && nat_le h.clauses clauses
     && nat_le h.universals 64 && nat_le h.existentials 4096
 
--- The variable that has each position among the universals and among the existentials; 0 where none has.
-pub record Owners : Type 0 where
-  pub universals : List ℕ
-  pub existentials : List ℕ
-
 abbrev pub owners : List ℕ → List ℕ → Owners
 owners us es = record { universals = us; existentials = es }
-
-abbrev pub told_owns : Bool → List ℕ → List ℕ → Option Owners
-told_owns true us es = Some (owners us es)
-told_owns false us es = None
 
 -- a position from 1 to n that has no owner yet
 abbrev pub free : ℕ → List ℕ → ℕ → Bool
@@ -49,58 +41,63 @@ owns_by kind.Existential h v x o =
 abbrev pub owns : Head → ℕ → Variable → Owners → Option Owners
 owns h v x o = owns_by x.kind h v x o
 
-abbrev pub on_some : {X Y : Type 0} → Option X → Y → (X → Y) → Y
-on_some None y f = y
-on_some (Some x) y f = f x
-
 -- the records from variable v on
 abbrev pub records_own : Head → ℕ → List Variable → Owners → Option Owners
 records_own h v [] o = Some o
-records_own h v (x ∷ xs) o = on_some (owns h v x o) None (λ o'. records_own h (v + 1) xs o')
+records_own h v (x ∷ xs) o = option_and_then (λ o'. records_own h (v + 1) xs o') (owns h v x o)
 
 abbrev pub all_owned : List ℕ → Bool
-all_owned os = each (λ o. not (o == 0)) os
+all_owned os = list_all (λ o. not (o == 0)) os
 
 abbrev pub undeclared : Variable → Bool
 undeclared x = is_undeclared x.kind && x.position == 0 && within_word x.dependencies empty_word
 
 abbrev pub undeclared_all : List Variable → Bool
-undeclared_all xs = each undeclared xs
+undeclared_all xs = list_all undeclared xs
+
+-- the records of the declared variables, and those behind them
+abbrev pub records_lawful : Head → List Variable → List Variable → Bool
+records_lawful h declared free_records =
+    option_map_or
+    (λ o. all_owned (take h.universals (drop 1 o.universals)) && all_owned (take h.existentials (drop 1 o.existentials)) && undeclared_all free_records)
+    (records_own h 1 declared (owners (replicate 65 0) (replicate 4097 0))) false
 
 abbrev pub variables_lawful : Head → List Variable → Bool
-variables_lawful h vs =
-    on_some (records_own h 1 (take h.variables vs) (owners (replicate 65 0) (replicate 4097 0))) false
-    (λ o. all_owned (take h.universals (drop 1 o.universals)) && all_owned (take h.existentials (drop 1 o.existentials)) && undeclared_all (drop h.variables vs))
+variables_lawful h vs = records_lawful h (take h.variables vs) (drop h.variables vs)
 
 -- literals of declared variables, behind those of the clause that came before, none named twice
-abbrev pub clause_lawful : ℕ → List Variable → List Literal → List Literal → Bool
-clause_lawful known vs done [] = true
-clause_lawful known vs done (l ∷ ls) =
-    nat_le 1 l.variable && nat_le l.variable known && not (is_undeclared (variable_at vs l.variable).kind) && not (names l.variable done)
-    && clause_lawful known vs (done ++ l ∷ []) ls
+abbrev pub clause_lawful : List Variable → List Literal → List Literal → Bool
+clause_lawful vs done [] = true
+clause_lawful vs done (l ∷ ls) =
+    nat_le 1 l.variable && nat_le l.variable (length vs) && not (is_undeclared (variable_at vs l.variable).kind) && not (names l.variable done)
+    && clause_lawful vs (done ++ l ∷ []) ls
 
 -- the index behind the literals of these clauses, of which the first begins at `at`
-abbrev pub spans_end : ℕ → List Variable → ℕ → List Clause → List Literal → Option ℕ
-spans_end known vs at [] ls = Some at
-spans_end known vs at (s ∷ ss) ls =
-    cond (s.first == at && nat_le s.len 1024 && nat_le s.len (length ls - at) && clause_lawful known vs [] (take s.len (drop at ls)))
-    (spans_end known vs (at + s.len) ss ls) None
+abbrev pub spans_end : List Variable → ℕ → List Clause → List Literal → Option ℕ
+spans_end vs at [] ls = Some at
+spans_end vs at (s ∷ ss) ls =
+    cond (s.first == at && nat_le s.len 1024 && nat_le s.len (length ls - at) && clause_lawful vs [] (take s.len (drop at ls)))
+    (spans_end vs (at + s.len) ss ls) None
 
 abbrev pub zero_span : Clause → Bool
 zero_span s = s.first == 0 && s.len == 0
 
 abbrev pub zero_spans : List Clause → Bool
-zero_spans ss = each zero_span ss
+zero_spans ss = list_all zero_span ss
 
 abbrev pub zero_literal : Literal → Bool
 zero_literal l = l.variable == 0 && not l.negative
 
 abbrev pub zero_literals : List Literal → Bool
-zero_literals ls = each zero_literal ls
+zero_literals ls = list_all zero_literal ls
+
+-- the spans of the clauses, and those behind them
+abbrev pub spans_lawful : List Variable → List Clause → List Clause → List Literal → Bool
+spans_lawful declared used free_spans ls =
+    option_map_or (λ end. zero_spans free_spans && zero_literals (drop end ls)) (spans_end declared 0 used ls) false
 
 abbrev pub clauses_lawful : Head → List Variable → List Clause → List Literal → Bool
-clauses_lawful h vs cs ls =
-    on_some (spans_end h.variables vs 0 (take h.clauses cs) ls) false (λ end. zero_spans (drop h.clauses cs) && zero_literals (drop end ls))
+clauses_lawful h vs cs ls = spans_lawful (take h.variables vs) (take h.clauses cs) (drop h.clauses cs) ls
 
 -- what the audit computes
 abbrev pub formula_lawful : Head → List Variable → List Clause → List Literal → Bool

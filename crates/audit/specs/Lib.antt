@@ -1,3 +1,2 @@
 pub mod CircuitAudit
-pub mod Each
 pub mod FormulaAudit

@@ -1,16 +1,17 @@
 // The audit of circuit tables.
 ghost use Rattle.std.specs.Prelude.{◌≡◌, ◌+◌, ◌≤◌, length, Decides};
-ghost use Rattle.audit.specs.CircuitAudit.{counts_lawful, zero_outputs, zero_gates, outputs_lawful, gates_lawful, circuit_lawful, LeftByACircuitText};
+ghost use Rattle.audit.specs.CircuitAudit.{counts_lawful, outputs_lawful, gates_lawful, circuit_lawful, LeftByACircuitText};
 
-use circuit::tables::{CircuitHead, Gate};
+use super::all_are;
+use circuit::tables::{CircuitHead, Gate, MAX_INPUTS, MAX_OUTPUTS, MAX_WIRES};
 
 fn lawful_counts(head: CircuitHead, outputs: usize, gates: usize) -> bool
     ensures { result ≡ counts_lawful head outputs gates }
 {
-    head.inputs <= 64
-        && head.wires <= 60_000
-        && head.outputs <= 4_096
-        && head.gates <= 60_000
+    head.inputs <= MAX_INPUTS
+        && head.wires <= MAX_WIRES
+        && head.outputs <= MAX_OUTPUTS
+        && head.gates <= MAX_WIRES
         && head.wires == head.inputs + head.gates
         && head.outputs as usize <= outputs
         && head.gates as usize <= gates
@@ -20,49 +21,18 @@ fn lawful_counts(head: CircuitHead, outputs: usize, gates: usize) -> bool
 fn lawful_outputs(bound: u32, outputs: &[u32]) -> bool
     ensures { result ≡ outputs_lawful bound outputs.now }
 {
-    for output in outputs {
-        if *output >= bound {
-            return false;
-        }
-    }
-    true
+    outputs.iter().all(|output| *output < bound)
 }
 
 // Each gate's right literals are below its own, the first gate's own being 2(inputs + 1).
 fn lawful_gates(inputs: u32, gates: &[Gate]) -> bool
-    requires { inputs + length gates.now ≤ 60000 }
+    requires { inputs + length gates.now ≤ MAX_WIRES }
     ensures { result ≡ gates_lawful inputs gates.now }
 {
-    let mut own = 2 * inputs;
-    for gate in gates {
-        own += 2;
-        if gate.left >= own || gate.right >= own {
-            return false;
-        }
-    }
-    true
-}
-
-fn all_zero_outputs(outputs: &[u32]) -> bool
-    ensures { result ≡ zero_outputs outputs.now }
-{
-    for output in outputs {
-        if *output != 0 {
-            return false;
-        }
-    }
-    true
-}
-
-fn all_zero_gates(gates: &[Gate]) -> bool
-    ensures { result ≡ zero_gates gates.now }
-{
-    for gate in gates {
-        if gate.left != 0 || gate.right != 0 {
-            return false;
-        }
-    }
-    true
+    gates.iter().enumerate().all(|(g, gate)| {
+        let own = 2 * (inputs + g as u32 + 1);
+        gate.left < own && gate.right < own
+    })
 }
 
 // Whether an accepted reading of some text, of any length, leaves this head and these tables.
@@ -76,7 +46,7 @@ pub fn audit_circuit(head: CircuitHead, outputs: &[u32], gates: &[Gate]) -> bool
     let (used_outputs, free_outputs) = outputs.split_at(head.outputs as usize);
     let (used_gates, free_gates) = gates.split_at(head.gates as usize);
     lawful_outputs(2 * head.wires + 2, used_outputs)
-        && all_zero_outputs(free_outputs)
+        && all_are(free_outputs, &0)
         && lawful_gates(head.inputs, used_gates)
-        && all_zero_gates(free_gates)
+        && all_are(free_gates, &Gate::default())
 }

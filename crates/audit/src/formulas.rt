@@ -1,62 +1,74 @@
 // The audit of formula tables.
-ghost use Rattle.std.specs.Prelude.{◌≡◌, ℕ, ◌+◌, ◌<◌, ◌≤◌, [], length, Decides, slice_index};
-ghost use Rattle.std.specs.Option.{unwrap_or};
-ghost use Rattle.audit.specs.FormulaAudit.{head_lawful, owns, told_owns, owners, variables_lawful, all_owned, undeclared_all, clause_lawful, spans_end, zero_spans, zero_literals, clauses_lawful, formula_lawful, LeftByAFormulaText};
+ghost use Rattle.std.specs.Prelude.{◌≡◌, ◌+◌, ◌<◌, ◌≤◌, [], true, length, Decides, slice_set};
+ghost use Rattle.std.specs.Bool.{then_some};
+ghost use Rattle.formula.specs.declared.tables.TheConstants.{MAX_EXISTENTIALS, MAX_UNIVERSALS, MAX_VARIABLES};
+ghost use Rattle.audit.specs.FormulaAudit.{head_lawful, free, owns, all_owned, records_lawful, clause_lawful, spans_lawful, formula_lawful, LeftByAFormulaText};
 
+use super::all_are;
 use base::values::ValueWord;
-use formula::tables::{Clause, Head, Kind, Literal, Variable};
+use formula::lookup::variable;
+use formula::marks::Marks;
+use formula::tables::{
+    Clause, Head, Kind, Literal, MAX_CLAUSES, MAX_EXISTENTIALS, MAX_LITERALS, MAX_UNIVERSALS,
+    MAX_VARIABLES, Variable,
+};
 
 fn lawful_head(head: Head, variables: usize, clauses: usize) -> bool
     ensures { result ≡ head_lawful head variables clauses }
 {
     head.variables >= 1
-        && head.variables <= 65_535
+        && head.variables <= MAX_VARIABLES
         && head.variables as usize <= variables
-        && head.clauses <= 16_384
+        && head.clauses <= MAX_CLAUSES
         && head.clauses as usize <= clauses
-        && head.universals <= 64
-        && head.existentials <= 4_096
+        && head.universals <= MAX_UNIVERSALS
+        && head.existentials <= MAX_EXISTENTIALS
 }
 
-// Enters variable v as the owner of its position; false where its record is none that a reading leaves, or the
-// position has an owner.
-fn own(
-    head: Head,
-    v: u32,
-    variable: Variable,
-    universals: &mut [u32],
-    existentials: &mut [u32],
-) -> bool
-    requires { (head.universals < length universals.old) × (head.existentials < length existentials.old) }
-    ensures { told_owns result universals.new existentials.new ≡ owns head v variable (owners universals.old existentials.old) }
+// The variable that has each position among the universals and among the existentials. No variable has number 0, so
+// a 0 stands for none, as in the lent tables.
+#[derive(Drop)]
+struct Owners {
+    universals: [u32; MAX_UNIVERSALS as usize + 1],
+    existentials: [u32; MAX_EXISTENTIALS as usize + 1],
+}
+
+// Makes v the owner of a position from 1 to `last`; false where there is no such position, or it has an owner.
+fn enter(owners: &mut [u32], last: u32, position: u32, v: u32) -> bool
+    requires { last < length owners.old }
+    ensures is { result ≡ free last owners.old position }
+    ensures entered { result ≡ true → owners.new ≡ slice_set owners.old position v }
 {
-    let position = variable.position;
-    let at = position as usize;
-    match variable.kind {
-        Kind::Undeclared => position == 0 && variable.dependencies.is_within(ValueWord::empty()),
-        Kind::Universal => {
-            if position == 0
-                || position > head.universals
-                || universals[at] != 0
-                || !variable.dependencies.is_within(ValueWord::empty())
-            {
-                return false;
+    if position == 0 || position > last || owners[position as usize] != 0 {
+        return false;
+    }
+    owners[position as usize] = v;
+    true
+}
+
+impl Owners {
+    // Enters variable v as the owner of its position; false where its record is none that a reading leaves, or the
+    // position has an owner.
+    fn own(&mut self, head: Head, v: u32, variable: Variable) -> bool
+        requires universals { head.universals ≤ MAX_UNIVERSALS }
+        requires existentials { head.existentials ≤ MAX_EXISTENTIALS }
+        ensures { then_some result self.new ≡ owns head v variable self.old }
+    {
+        let Variable {
+            kind,
+            position,
+            dependencies,
+        } = variable;
+        match kind {
+            Kind::Undeclared => variable == Variable::default(),
+            Kind::Universal => {
+                dependencies == ValueWord::empty()
+                    && enter(&mut self.universals, head.universals, position, v)
             }
-            universals[at] = v;
-            true
-        }
-        Kind::Existential => {
-            if position == 0
-                || position > head.existentials
-                || existentials[at] != 0
-                || !variable
-                    .dependencies
-                    .is_within(ValueWord::first(head.universals))
-            {
-                return false;
+            Kind::Existential => {
+                dependencies.is_within(ValueWord::first(head.universals))
+                    && enter(&mut self.existentials, head.existentials, position, v)
             }
-            existentials[at] = v;
-            true
         }
     }
 }
@@ -65,141 +77,74 @@ fn own(
 fn has_owners(owners: &[u32]) -> bool
     ensures { result ≡ all_owned owners.now }
 {
-    for owner in owners {
-        if *owner == 0 {
+    owners.iter().all(|owner| *owner != 0)
+}
+
+// Whether the declared variables own their positions, one each, and the records behind them are free.
+fn lawful_variables(head: Head, declared: &[Variable], free: &[Variable]) -> bool
+    requires variables { length declared.now ≤ MAX_VARIABLES }
+    requires universals { head.universals ≤ MAX_UNIVERSALS }
+    requires existentials { head.existentials ≤ MAX_EXISTENTIALS }
+    ensures { result ≡ records_lawful head declared.now free.now }
+{
+    let mut owners = Owners {
+        universals: [0; MAX_UNIVERSALS as usize + 1],
+        existentials: [0; MAX_EXISTENTIALS as usize + 1],
+    };
+    // A loop: each step changes the owners, which a closure of `all` may not if a proof is to know them.
+    for (i, variable) in declared.iter().enumerate() {
+        if !owners.own(head, i as u32 + 1, *variable) {
             return false;
         }
     }
-    true
+    has_owners(&owners.universals[1..=head.universals as usize])
+        && has_owners(&owners.existentials[1..=head.existentials as usize])
+        && all_are(free, &Variable::default())
 }
 
-// Whether none of these variables is declared.
-fn all_undeclared(vars: &[Variable]) -> bool
-    ensures { result ≡ undeclared_all vars.now }
+// Whether these are literals of declared variables, none of which is named twice.
+fn lawful_clause(declared: &[Variable], marks: &mut Marks, literals: &[Literal]) -> bool
+    requires variables { length declared.now ≤ MAX_VARIABLES }
+    ensures { result ≡ clause_lawful declared.now [] literals.now }
 {
-    for variable in vars {
-        let Kind::Undeclared = variable.kind else {
-            return false;
-        };
-        if variable.position != 0 || !variable.dependencies.is_within(ValueWord::empty()) {
-            return false;
-        }
-    }
-    true
-}
-
-fn lawful_variables(head: Head, vars: &[Variable]) -> bool
-    requires { (head.variables ≤ length vars.now) × ((head.variables ≤ 65535) × ((head.universals ≤ 64) × (head.existentials ≤ 4096))) }
-    ensures { result ≡ variables_lawful head vars.now }
-{
-    let mut universals = [0u32; 65];
-    let mut existentials = [0u32; 4097];
-    for i in 0..head.variables {
-        if !own(
-            head,
-            i + 1,
-            vars[i as usize],
-            &mut universals,
-            &mut existentials,
-        ) {
-            return false;
-        }
-    }
-    let n = head.universals as usize;
-    let e = head.existentials as usize;
-    has_owners(&universals[1..n + 1])
-        && has_owners(&existentials[1..e + 1])
-        && all_undeclared(&vars[head.variables as usize..])
-}
-
-// Whether these are literals of declared variables, none of which is named twice. A variable is named where its
-// mark is the clause's stamp.
-fn lawful_clause(
-    known: u32,
-    vars: &[Variable],
-    marks: &mut [u16],
-    stamp: u16,
-    literals: &[Literal],
-) -> bool
-    requires { (known ≤ length vars.now) × ((known < length marks.old) × ((v : ℕ) → slice_index marks.old v < stamp)) }
-    ensures is { result ≡ clause_lawful known vars.now [] literals.now }
-    ensures marked { (v : ℕ) → slice_index marks.new v ≤ stamp }
-{
+    marks.next_clause();
+    // A loop, as above: each step marks a variable.
     for literal in literals {
         let v = literal.variable;
-        if v == 0 || v > known {
+        if variable(declared, v).is_none_or(|x| x.kind == Kind::Undeclared) || marks.has(v) {
             return false;
         }
-        if let Kind::Undeclared = vars[v as usize - 1].kind {
-            return false;
-        }
-        if marks[v as usize] == stamp {
-            return false;
-        }
-        marks[v as usize] = stamp;
+        marks.add(v);
     }
     true
 }
 
-// The index behind the clauses' literals, where each clause is lawful and stands directly behind the one before.
-fn lawful_spans(
-    known: u32,
-    vars: &[Variable],
-    clauses: &[Clause],
+// Whether each clause is lawful and stands directly behind the one before, with zeros behind the last.
+fn lawful_clauses(
+    declared: &[Variable],
+    used: &[Clause],
+    free: &[Clause],
     literals: &[Literal],
-) -> Option<usize>
-    requires { (known ≤ length vars.now) × ((known ≤ 65535) × (length clauses.now ≤ 16384)) }
-    ensures is { result ≡ spans_end known vars.now 0 clauses.now literals.now }
-    ensures within { unwrap_or result 0 ≤ length literals.now }
+) -> bool
+    requires variables { length declared.now ≤ MAX_VARIABLES }
+    ensures { result ≡ spans_lawful declared.now used.now free.now literals.now }
 {
-    let mut marks = [0u16; 65_536];
-    let mut stamp: u16 = 0;
-    let mut at: usize = 0;
-    for clause in clauses {
-        let len = clause.len as usize;
-        if clause.first as usize != at || len > 1_024 || len > literals.len() - at {
-            return None;
-        }
-        stamp += 1;
-        if !lawful_clause(known, vars, &mut marks, stamp, &literals[at..at + len]) {
-            return None;
-        }
-        at += len;
-    }
-    Some(at)
-}
-
-fn all_zero_spans(clauses: &[Clause]) -> bool
-    ensures { result ≡ zero_spans clauses.now }
-{
-    for clause in clauses {
-        if clause.first != 0 || clause.len != 0 {
+    let mut marks = Marks::new();
+    let mut at = 0;
+    // A loop, as above: each step moves the place in the literals and the marks.
+    for clause in used {
+        if clause.first as usize != at || clause.len as usize > MAX_LITERALS {
             return false;
         }
-    }
-    true
-}
-
-fn all_zero_literals(literals: &[Literal]) -> bool
-    ensures { result ≡ zero_literals literals.now }
-{
-    for literal in literals {
-        if literal.variable != 0 || literal.negative {
+        let Some(named) = literals[at..].get(..clause.len as usize) else {
+            return false;
+        };
+        if !lawful_clause(declared, &mut marks, named) {
             return false;
         }
+        at += named.len();
     }
-    true
-}
-
-fn lawful_clauses(head: Head, vars: &[Variable], clauses: &[Clause], literals: &[Literal]) -> bool
-    requires { (head.variables ≤ length vars.now) × ((head.variables ≤ 65535) × ((head.clauses ≤ 16384) × (head.clauses ≤ length clauses.now))) }
-    ensures { result ≡ clauses_lawful head vars.now clauses.now literals.now }
-{
-    let (used, free) = clauses.split_at(head.clauses as usize);
-    let Some(end) = lawful_spans(head.variables, vars, used, literals) else {
-        return false;
-    };
-    all_zero_spans(free) && all_zero_literals(&literals[end..])
+    all_are(free, &Clause::default()) && all_are(&literals[at..], &Literal::default())
 }
 
 // Whether an accepted reading of some text, of any length, leaves this head and these tables.
@@ -212,7 +157,11 @@ pub fn audit_formula(
     ensures is { result ≡ formula_lawful head vars.now clauses.now literals.now }
     ensures lawful { Decides result (LeftByAFormulaText head vars.now clauses.now literals.now) }
 {
-    lawful_head(head, vars.len(), clauses.len())
-        && lawful_variables(head, vars)
-        && lawful_clauses(head, vars, clauses, literals)
+    if !lawful_head(head, vars.len(), clauses.len()) {
+        return false;
+    }
+    let (declared, free_vars) = vars.split_at(head.variables as usize);
+    let (used, free_clauses) = clauses.split_at(head.clauses as usize);
+    lawful_variables(head, declared, free_vars)
+        && lawful_clauses(declared, used, free_clauses, literals)
 }

@@ -3,7 +3,7 @@ use super::outcomes::Outcome::{Accepted, Refused};
 use super::outcomes::*;
 use base::values::ValueWord;
 use circuit::read::read_circuit;
-use circuit::tables::Gate;
+use circuit::tables::{CircuitHead, Gate};
 use reach::{fill_reaches, wire_reach};
 use std::alloc::{AllocError, Global};
 use std::test::Fail;
@@ -207,104 +207,89 @@ static LONG: [(&[Piece], Rooms, Outcome); 10] = [
     ),
 ];
 
-const NO_GATE: Gate = Gate { left: 0, right: 0 };
+// The reader of circuit texts, with the reaches.
+struct CircuitReader;
 
-// Reads a text into tables that hold something else before.
-fn outcome_of(heap: Global, text: &[u8], at: usize, rooms: Rooms) -> Result<Outcome, AllocError> {
-    let mut place = Place { at };
-    let mut outputs = vec![in heap; 7; rooms.0]?;
-    let mut gates = vec![in heap; Gate { left: 7, right: 7 }; rooms.1]?;
-    match read_circuit(
-        text,
-        &mut place,
-        outputs.as_mut_slice(),
-        gates.as_mut_slice(),
-    ) {
-        Ok(head) => {
-            let o = head.outputs as usize;
-            let a = head.gates as usize;
-            let mut reaches = vec![in heap; ValueWord { bits: 7 }; a]?;
-            if o > outputs.len()
-                || a > gates.len()
-                || !fill_reaches(head, gates.as_slice(), reaches.as_mut_slice())
-            {
-                return Ok(Outcome::Unlawful);
+impl Reader for CircuitReader {
+    type Rooms = Rooms;
+
+    fn outcome_of(
+        heap: Global,
+        text: &[u8],
+        at: usize,
+        rooms: Rooms,
+    ) -> Result<Outcome, AllocError> {
+        let mut place = Place { at };
+        let mut outputs = vec![in heap; 7; rooms.0]?;
+        let mut gates = vec![in heap; Gate { left: 7, right: 7 }; rooms.1]?;
+        match read_circuit(
+            text,
+            &mut place,
+            outputs.as_mut_slice(),
+            gates.as_mut_slice(),
+        ) {
+            Ok(head) => accepted(heap, place, head, outputs.as_slice(), gates.as_slice()),
+            Err(fault) => {
+                let lawful = place.at == at
+                    && all_default(outputs.as_slice())
+                    && all_default(gates.as_slice());
+                Ok(if lawful {
+                    refusal(fault)
+                } else {
+                    Outcome::Unlawful
+                })
             }
-            if !all_are(&outputs.as_slice()[o..], 0) || !all_are(&gates.as_slice()[a..], NO_GATE) {
-                return Ok(Outcome::Unlawful);
-            }
-            let mut word = 0;
-            if o > 0 {
-                word = wire_reach(head.inputs, reaches.as_slice(), outputs[o - 1] / 2).bits;
-            }
-            Ok(Accepted(
-                place.at,
-                (head.wires, head.inputs, head.outputs, head.gates),
-                word,
-            ))
-        }
-        Err(fault) => {
-            if place.at != at
-                || !all_are(outputs.as_slice(), 0)
-                || !all_are(gates.as_slice(), NO_GATE)
-            {
-                return Ok(Outcome::Unlawful);
-            }
-            Ok(refusal(fault))
         }
     }
+}
+
+// What came of a reading that accepted.
+fn accepted(
+    heap: Global,
+    place: Place,
+    head: CircuitHead,
+    outputs: &[u32],
+    gates: &[Gate],
+) -> Result<Outcome, AllocError> {
+    let mut reaches = vec![in heap; ValueWord { bits: 7 }; head.gates as usize]?;
+    let filled = fill_reaches(head, gates, reaches.as_mut_slice());
+    let (Some((outputs, no_outputs)), Some((_, no_gates))) = (
+        outputs.split_at_checked(head.outputs as usize),
+        gates.split_at_checked(head.gates as usize),
+    ) else {
+        return Ok(Outcome::Unlawful);
+    };
+    if !filled || !all_default(no_outputs) || !all_default(no_gates) {
+        return Ok(Outcome::Unlawful);
+    }
+    let word = match outputs.last() {
+        Some(output) => wire_reach(head.inputs, reaches.as_slice(), *output / 2).bits,
+        None => 0,
+    };
+    Ok(Accepted(
+        place.at,
+        (head.wires, head.inputs, head.outputs, head.gates),
+        word,
+    ))
 }
 
 #[test]
 fn short_circuits(rt: HostRuntime) -> Result<(), Fail> {
-    for case in SHORT.iter() {
-        let (text, at, rooms, outcome) = *case;
-        assert_eq!(rt;
-            outcome_of(rt.alloc(), text.as_bytes(), at, rooms)?,
-            outcome,
-            "{}",
-            text
-        );
-    }
-    Ok(())
+    hold_short::<CircuitReader>(rt.alloc(), &SHORT)
 }
 
 #[test]
 fn long_circuits(rt: HostRuntime) -> Result<(), Fail> {
-    let heap = rt.alloc();
-    for case in LONG.iter() {
-        let (pieces, rooms, outcome) = *case;
-        let text = build(heap, pieces)?;
-        assert_eq!(rt;
-            outcome_of(heap, text.as_slice(), 0, rooms)?,
-            outcome,
-            "{pieces:?}"
-        );
-    }
-    // The longest text, here of blanks, is read to its end; one byte more is refused before all else.
-    let mut text = vec![in heap; b' '; 16_777_216]?;
-    assert_eq!(rt;
-        outcome_of(heap, text.as_slice(), 0, SMALL)?,
-        Refused(4, 16_777_216, 1)
-    );
-    text.push(b' ')?;
-    assert_eq!(rt;
-        outcome_of(heap, text.as_slice(), 0, SMALL)?,
-        Refused(1, 0, 1)
-    );
-    assert_eq!(rt;
-        outcome_of(heap, text.as_slice(), 16_777_218, SMALL)?,
-        Refused(1, 0, 1)
-    );
-    Ok(())
+    hold_long::<CircuitReader>(rt.alloc(), &LONG)?;
+    hold_longest::<CircuitReader>(rt.alloc(), SMALL)
 }
 
 // The tables of two gates, the second of which reads the first.
 #[test]
 fn tables_of_a_circuit(rt: HostRuntime) {
-    let mut place = Place { at: 0 };
+    let mut place = Place::default();
     let mut outputs = [0; 2];
-    let mut gates = [NO_GATE; 2];
+    let mut gates = [Gate::default(); 2];
     assert!(rt;
         read_circuit(
             b"aag 4 2 0 2 2 2 4 9 6 6 5 2 8 7 4",

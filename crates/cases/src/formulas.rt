@@ -3,7 +3,7 @@ use super::outcomes::Outcome::{Accepted, Refused};
 use super::outcomes::*;
 use base::values::ValueWord;
 use formula::read::read_formula;
-use formula::tables::{Clause, Kind, Literal, Variable};
+use formula::tables::{Clause, Head, Kind, Literal, Variable};
 use std::alloc::{AllocError, Global};
 use std::test::Fail;
 use words::place::Place;
@@ -444,134 +444,111 @@ static LONG: [(&[Piece], Rooms, Outcome); 26] = [
     ),
 ];
 
-const NO_VARIABLE: Variable = Variable {
-    kind: Kind::Undeclared,
-    position: 0,
-    dependencies: ValueWord { bits: 0 },
-};
+// The reader of formula texts.
+struct FormulaReader;
 
-const NO_CLAUSE: Clause = Clause { first: 0, len: 0 };
+impl Reader for FormulaReader {
+    type Rooms = Rooms;
 
-const NO_LITERAL: Literal = Literal {
-    variable: 0,
-    negative: false,
-};
-
-// Reads a text into tables that hold something else before.
-fn outcome_of(heap: Global, text: &[u8], at: usize, rooms: Rooms) -> Result<Outcome, AllocError> {
-    let mut place = Place { at };
-    let mut variables = vec![in heap; Variable {
-        kind: Kind::Universal,
-        position: 7,
-        dependencies: ValueWord { bits: 7 }
-    }; rooms.0]?;
-    let mut clauses = vec![in heap; Clause { first: 7, len: 7 }; rooms.1]?;
-    let mut literals = vec![in heap; Literal {
-        variable: 7,
-        negative: true
-    }; rooms.2]?;
-    match read_formula(
-        text,
-        &mut place,
-        variables.as_mut_slice(),
-        clauses.as_mut_slice(),
-        literals.as_mut_slice(),
-    ) {
-        Ok(head) => {
-            let v = head.variables as usize;
-            let c = head.clauses as usize;
-            if v == 0 || v > variables.len() || c > clauses.len() {
-                return Ok(Outcome::Unlawful);
+    fn outcome_of(
+        heap: Global,
+        text: &[u8],
+        at: usize,
+        rooms: Rooms,
+    ) -> Result<Outcome, AllocError> {
+        let mut place = Place { at };
+        let mut variables = vec![in heap; Variable {
+            kind: Kind::Universal,
+            position: 7,
+            dependencies: ValueWord { bits: 7 }
+        }; rooms.0]?;
+        let mut clauses = vec![in heap; Clause { first: 7, len: 7 }; rooms.1]?;
+        let mut literals = vec![in heap; Literal {
+            variable: 7,
+            negative: true
+        }; rooms.2]?;
+        match read_formula(
+            text,
+            &mut place,
+            variables.as_mut_slice(),
+            clauses.as_mut_slice(),
+            literals.as_mut_slice(),
+        ) {
+            Ok(head) => Ok(accepted(
+                place,
+                head,
+                variables.as_slice(),
+                clauses.as_slice(),
+                literals.as_slice(),
+            )),
+            Err(fault) => {
+                let lawful = place.at == at
+                    && all_default(variables.as_slice())
+                    && all_default(clauses.as_slice())
+                    && all_default(literals.as_slice());
+                Ok(if lawful {
+                    refusal(fault)
+                } else {
+                    Outcome::Unlawful
+                })
             }
-            let mut used = 0;
-            if c > 0 {
-                let last = clauses[c - 1];
-                used = last.first as usize + last.len as usize;
-            }
-            if used > literals.len() {
-                return Ok(Outcome::Unlawful);
-            }
-            if !all_are(&variables.as_slice()[v..], NO_VARIABLE)
-                || !all_are(&clauses.as_slice()[c..], NO_CLAUSE)
-                || !all_are(&literals.as_slice()[used..], NO_LITERAL)
-            {
-                return Ok(Outcome::Unlawful);
-            }
-            Ok(Accepted(
-                place.at,
-                (
-                    head.variables,
-                    head.clauses,
-                    head.universals,
-                    head.existentials,
-                ),
-                variables[v - 1].dependencies.bits,
-            ))
-        }
-        Err(fault) => {
-            if place.at != at
-                || !all_are(variables.as_slice(), NO_VARIABLE)
-                || !all_are(clauses.as_slice(), NO_CLAUSE)
-                || !all_are(literals.as_slice(), NO_LITERAL)
-            {
-                return Ok(Outcome::Unlawful);
-            }
-            Ok(refusal(fault))
         }
     }
+}
+
+// What came of a reading that accepted.
+fn accepted(
+    place: Place,
+    head: Head,
+    variables: &[Variable],
+    clauses: &[Clause],
+    literals: &[Literal],
+) -> Outcome {
+    let (Some((variables, no_variables)), Some((clauses, no_clauses))) = (
+        variables.split_at_checked(head.variables as usize),
+        clauses.split_at_checked(head.clauses as usize),
+    ) else {
+        return Outcome::Unlawful;
+    };
+    let used = clauses
+        .last()
+        .map_or(0, |last| last.first as usize + last.len as usize);
+    let (Some(last), Some(no_literals)) = (variables.last(), literals.get(used..)) else {
+        return Outcome::Unlawful;
+    };
+    if !all_default(no_variables) || !all_default(no_clauses) || !all_default(no_literals) {
+        return Outcome::Unlawful;
+    }
+    Accepted(
+        place.at,
+        (
+            head.variables,
+            head.clauses,
+            head.universals,
+            head.existentials,
+        ),
+        last.dependencies.bits,
+    )
 }
 
 #[test]
 fn short_formulas(rt: HostRuntime) -> Result<(), Fail> {
-    for case in SHORT.iter() {
-        let (text, at, rooms, outcome) = *case;
-        assert_eq!(rt;
-            outcome_of(rt.alloc(), text.as_bytes(), at, rooms)?,
-            outcome,
-            "{}",
-            text
-        );
-    }
-    Ok(())
+    hold_short::<FormulaReader>(rt.alloc(), &SHORT)
 }
 
 #[test]
 fn long_formulas(rt: HostRuntime) -> Result<(), Fail> {
-    let heap = rt.alloc();
-    for case in LONG.iter() {
-        let (pieces, rooms, outcome) = *case;
-        let text = build(heap, pieces)?;
-        assert_eq!(rt;
-            outcome_of(heap, text.as_slice(), 0, rooms)?,
-            outcome,
-            "{pieces:?}"
-        );
-    }
-    // The longest text, here of blanks, is read to its end; one byte more is refused before all else.
-    let mut text = vec![in heap; b' '; 16_777_216]?;
-    assert_eq!(rt;
-        outcome_of(heap, text.as_slice(), 0, SMALL)?,
-        Refused(4, 16_777_216, 1)
-    );
-    text.push(b' ')?;
-    assert_eq!(rt;
-        outcome_of(heap, text.as_slice(), 0, SMALL)?,
-        Refused(1, 0, 1)
-    );
-    assert_eq!(rt;
-        outcome_of(heap, text.as_slice(), 16_777_218, SMALL)?,
-        Refused(1, 0, 1)
-    );
-    Ok(())
+    hold_long::<FormulaReader>(rt.alloc(), &LONG)?;
+    hold_longest::<FormulaReader>(rt.alloc(), SMALL)
 }
 
 // The tables of a formula whose existential, variable 2, has to equal its universal, variable 1.
 #[test]
 fn tables_of_a_formula(rt: HostRuntime) {
-    let mut place = Place { at: 0 };
-    let mut variables = [NO_VARIABLE; 2];
-    let mut clauses = [NO_CLAUSE; 2];
-    let mut literals = [NO_LITERAL; 4];
+    let mut place = Place::default();
+    let mut variables = [Variable::default(); 2];
+    let mut clauses = [Clause::default(); 2];
+    let mut literals = [Literal::default(); 4];
     assert!(rt;
         read_formula(
             b"p cnf 2 2 a 1 0 e 2 0 1 -2 0 -1 2 0",

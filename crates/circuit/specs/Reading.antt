@@ -1,9 +1,9 @@
 -- What the reader of circuit texts answers, by recursion on the counts over the words that are left.
-use Rattle.std.specs.Prelude.{◌≡◌, ℕ, zero, suc, ◌+◌, ◌*◌, ◌≤◌, Bool, cond, not, ltb, List, [], ◌∷◌, ◌++◌, length, take, replicate, Ok, Err, Result, ◌==◌, nat_lt}
+use Rattle.std.specs.Prelude.{◌≡◌, ℕ, zero, suc, ◌+◌, ◌*◌, ◌≤◌, Bool, cond, not, List, [], ◌∷◌, ◌++◌, length, take, replicate, Ok, Err, Result, ◌==◌, nat_lt}
 use Rattle.base.specs.declared.faults.Fault.{Fault}
 use Rattle.base.specs.Causes.{Refusal, told, refused, answered}
 use Rattle.words.specs.Words.{Spelt, words_from}
-use Rattle.words.specs.Due.{Got, and_then, number_from, name_from}
+use Rattle.words.specs.Due.{Got, and_then, number_from, name_from, unless_long}
 use Rattle.words.specs.Tables.{padded, Kept}
 use Rattle.circuit.specs.declared.tables.CircuitHead.{CircuitHead}
 use Rattle.circuit.specs.declared.tables.Gate.{Gate}
@@ -28,6 +28,10 @@ count_from rule ws size = and_then (number_from ws size) (λ g. and_then (rule g
 abbrev pub at_most : ℕ → ℕ → ℕ → Result ℕ Refusal
 at_most bound n p = cond (nat_lt bound n) (Err (refused 9 p 3)) (Ok n)
 
+-- what a test may answer is what the rule says
+abbrev pub Judges : (ℕ → Bool → Type 0) → (ℕ → Bool) → Type 0
+Judges answer rule = (n : ℕ) (b : Bool) → answer n b → b ≡ rule n
+
 -- a table's count: a table that is too short comes before a broken limit
 abbrev pub table_count : ℕ → (ℕ → Bool) → ℕ → ℕ → Result ℕ Refusal
 table_count room breaks n p = cond (nat_lt room n) (Err (refused 8 p 3)) (cond (breaks n) (Err (refused 9 p 3)) (Ok n))
@@ -38,7 +42,7 @@ header_from ws output_room gate_room size =
     (λ a. and_then (count_from (at_most 60000) a.1 size)
     (λ m. and_then (count_from (at_most 64) m.1 size)
     (λ i. and_then (count_from (at_most 0) i.1 size)
-    (λ l. and_then (count_from (table_count output_room (λ n. ltb 4096 n)) l.1 size)
+    (λ l. and_then (count_from (table_count output_room (λ n. nat_lt 4096 n)) l.1 size)
     (λ o. and_then (count_from (table_count gate_room (λ n. not (m.0 == i.0 + n))) o.1 size)
     (λ g. Ok (record { wires = m.0; inputs = i.0; outputs = o.0; gates = g.0 }, g.1, g.2)))))))
 
@@ -64,10 +68,10 @@ gates_from i zero done ws q size = Ok (done, ws, q)
 gates_from i (suc n) done ws q size =
     and_then (gate_from (2 * (i + length done + 1)) ws size) (λ g. gates_from i n (done ++ g.0 ∷ []) g.1 g.2 size)
 
--- the first n entries of a table that was filled, with what is left of the text
-abbrev pub told_table : {X : Type 0} → Result (Unit {0}) Fault → ℕ → List X → List Spelt → ℕ → Got (List X)
-told_table (Ok u) n xs ws p = Ok (take n xs, ws, p)
-told_table (Err e) n xs ws p = Err (told e)
+-- a table that was filled, with what is left of the text
+abbrev pub told_table : {X : Type 0} → Result (Unit {0}) Fault → List X → List Spelt → ℕ → Got (List X)
+told_table (Ok u) xs ws p = Ok (xs, ws, p)
+told_table (Err e) xs ws p = Err (told e)
 
 pub record Circuit : Type 0 where
   pub head : CircuitHead
@@ -89,13 +93,16 @@ told_circuit (Ok h) os gs p = Ok (record { head = h; outputs = take h.outputs os
 told_circuit (Err e) os gs p = Err (told e)
 
 -- the tables have room for the counts, and hold behind them what they held
-abbrev pub Filled : CircuitHead → List ℕ → List ℕ → List Gate → List Gate → Type 0
-Filled h os os' gs gs' = (h.outputs ≤ length os) × (h.gates ≤ length gs) × Kept h.outputs os os' × Kept h.gates gs gs'
+pub record Filled (h : CircuitHead) (was is : List ℕ) (gates_were gates_are : List Gate) : Type 0 where
+  pub output_room : h.outputs ≤ length was
+  pub gate_room : h.gates ≤ length gates_were
+  pub outputs_kept : Kept h.outputs was is
+  pub gates_kept : Kept h.gates gates_were gates_are
 
 -- the circuit that a text spells from a place on, for tables of these lengths
 abbrev pub circuit_from : List ℕ → ℕ → ℕ → ℕ → Result Circuit Refusal
 circuit_from text place output_room gate_room =
-    cond (nat_lt 16777216 (length text)) (Err (refused 1 0 1)) (parts_from (words_from text place) output_room gate_room (length text))
+    unless_long (length text) (parts_from (words_from text place) output_room gate_room (length text))
 
 abbrev pub head_read : Result Circuit Refusal → Result CircuitHead Refusal
 head_read (Ok c) = Ok c.head

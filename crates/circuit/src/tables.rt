@@ -1,5 +1,14 @@
 // The tables that a circuit is read into. Literal 2w is wire w, 2w + 1 its negation; wire 0 is constant false.
 
+// The most wires besides the constant one.
+pub const MAX_WIRES: u32 = 60_000;
+
+// The most inputs.
+pub const MAX_INPUTS: u32 = 64;
+
+// The most outputs.
+pub const MAX_OUTPUTS: u32 = 4_096;
+
 // The header's counts: the largest wire (M), inputs (I), outputs (O) and gates (A).
 #[derive(Clone, Copy, PartialEq, Eq, Debug)]
 pub struct CircuitHead {

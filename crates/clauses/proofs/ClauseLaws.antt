@@ -2,6 +2,8 @@
 -- literal: the facts about the kind are parameters.
 use Rattle.std.proofs.Common.{◌≡◌, ℕ, zero, suc, ◌-◌, Bool, true, false, cond, not, ◌&&◌, ◌||◌, ◌⊎◌, List, [], ◌∷◌, ◌++◌, take, drop, Some, None, Option, sym, refl, ap, ◌∙◌, inl, inr, ⊎_elim, arith}
 use Rattle.std.proofs.lemmas.Bool.{both_ways, cases_Bool, and_parts, or_cases, or_left, or_right, cond-false, ne_eqb}
+use Rattle.std.proofs.Math.Bool.{or-false}
+use Rattle.std.proofs.lemmas.List.Folds.{list_any-append}
 use Rattle.clauses.specs.declared.clause.Found.{Found}
 use Rattle.clauses.specs.declared.clause.Found.TheVariants as found
 use Rattle.clauses.specs.Clauses.{member, contained, found_in, is_except, Joined, joined, add_by, add, join, once, pivot_at, resolvent}
@@ -9,14 +11,6 @@ use Rattle.clauses.specs.Clauses.{member, contained, found_in, is_except, Joined
 same_tests : (a b : Bool) → (a ≡ true → b ≡ true) → (b ≡ true → a ≡ true) → a ≡ b
 same_tests true b f g = sym (f refl)
 same_tests false b f g = ⊎_elim (λ e. g e ∙ sym e) sym (cases_Bool b)
-
-or_assoc : (a b c : Bool) → (a || (b || c)) ≡ ((a || b) || c)
-or_assoc true b c = refl
-or_assoc false b c = refl
-
-or_none : (a : Bool) → (a || false) ≡ a
-or_none true = refl
-or_none false = refl
 
 or_less : (a b : Bool) → (b ≡ true → a ≡ true) → (a || b) ≡ a
 or_less true b h = refl
@@ -68,10 +62,6 @@ module _ {X : Type 0} (like : X → X → Bool) (opposite : X → X) (itself : (
   except_like None x y e = refl
   except_like (Some p) x y e = same_tests (like x p) (like y p) (λ h. through y x p (back x y e) h) (λ h. through x y p e h)
 
-  pub member_append : (x : X) (ys zs : List X) → member like x (ys ++ zs) ≡ (member like x ys || member like x zs)
-  member_append x [] zs = refl
-  member_append x (y ∷ ys) zs = ap (λ b. like y x || b) (member_append x ys zs) ∙ or_assoc (like y x) (member like x ys) (member like x zs)
-
   pub contained_member : (xs ys : List X) → contained like xs ys ≡ true → (x : X) → member like x xs ≡ true → member like x ys ≡ true
   contained_member [] ys e x m = absurd (both_ways false refl m)
   contained_member (y ∷ xs) ys e x m =
@@ -104,12 +94,12 @@ module _ {X : Type 0} (like : X → X → Bool) (opposite : X → X) (itself : (
         sym (member_like y x (and_parts (like y x) (not (is_except like except x)) t).0 j.clause) ∙ found_same y (opposite y) j.clause q))
     added false found.Opposite j y x p q e = absurd (both_ways true e refl)
     added false found.Neither j y x p q e =
-        member_append x j.clause (y ∷ [])
+        list_any-append (λ z. like z x) j.clause (y ∷ [])
         ∙ ap (λ b. member like x j.clause || b) (or_kept (like y x) (is_except like except x) (λ l. sym (except_like except y x l) ∙ p))
 
     -- what the joined clause has
     pub join_member : (ys : List X) (j : Joined X) → (join like opposite except j ys).clash ≡ false → (x : X) → member like x (join like opposite except j ys).clause ≡ (member like x j.clause || (member like x ys && not (is_except like except x)))
-    join_member [] j e x = sym (or_none (member like x j.clause))
+    join_member [] j e x = sym (or-false (member like x j.clause))
     join_member (y ∷ ys) j e x =
         join_member ys (add like opposite except j y) e x
         ∙ ap (λ b. b || (member like x ys && not (is_except like except x)))
@@ -156,7 +146,7 @@ module _ {X : Type 0} (like : X → X → Bool) (opposite : X → X) (itself : (
         let r = true_by first t in
         let other : like s.0 r.0 ≡ false = ⊎_elim (λ l. absurd (both_ways _ (sym (respects s.0 r.0 l) ∙ f) r.1.1)) (λ f. f) (cases_Bool (like s.0 r.0)) in
         let there : member like r.0 (before ++ behind) ≡ true =
-        member_append r.0 before behind ∙ ap (λ b. member like r.0 before || (b || member like r.0 behind)) (sym other)
-        ∙ sym (member_append r.0 before (s.0 ∷ behind)) ∙ ap (member like r.0) (sym s.1.1) ∙ r.1.0 in
+        list_any-append (λ z. like z r.0) before behind ∙ ap (λ b. member like r.0 before || (b || member like r.0 behind)) (sym other)
+        ∙ sym (list_any-append (λ z. like z r.0) before (s.0 ∷ behind)) ∙ ap (member like r.0) (sym s.1.1) ∙ r.1.0 in
         true_at r.0 _ (has r.0 ∙ or_left (member like r.0 (before ++ behind)) _ there) r.1.1)
         (cases_Bool (holds s.0))

@@ -1,6 +1,5 @@
 pub mod ClauseLaws
 pub mod CodeLaws
-pub mod LoopLaws
 pub mod ResolutionLaws
 pub mod RowLaws
 pub mod LaidLaws

@@ -1,36 +1,17 @@
 -- A row with a clause at its front, and what is told of it.
-use Rattle.std.proofs.Common.{◌≡◌, ℕ, zero, suc, ◌+◌, ◌-◌, ◌<◌, ◌≤◌, Bool, true, false, cond, ltb, ◌⊎◌, List, [], ◌∷◌, ◌++◌, length, get_or, take, drop, set, Some, None, Ok, Err, Option, Result, sym, refl, ap, ◌∙◌, subst, inl, inr, arith}
-use borrow.Rule.Slice.PartMut.{put_mid, post_of}
-use Rattle.std.proofs.lemmas.List.{take-append-drop, length-append, length-take, length-take-le, length-drop, drop-set-lt, drop-drop, take_at, drop_at, append_assoc}
+use Rattle.std.proofs.Common.{◌≡◌, ℕ, zero, suc, ◌+◌, ◌-◌, ◌<◌, ◌≤◌, Bool, true, false, cond, ◌⊎◌, List, [], ◌∷◌, ◌++◌, length, get_or, take, drop, set, Some, None, Option, Result, sym, refl, ap, ◌∙◌, ap₂, inl, inr, drop-cons, add-one, arith}
+use Rattle.std.proofs.lemmas.List.{length-append, length-take, length-drop, length_push, drop-set-lt, drop-drop, take_at}
 use Rattle.std.proofs.lemmas.Slice.{drop-append-drop}
+use Rattle.std.proofs.Math.Seq.{append_snoc, set-append_seam}
 use Rattle.std.proofs.lemmas.Bool.{cond-true, cond-false, eq-eqb, le-leb, ne_eqb}
 use Rattle.base.specs.declared.faults.Cause.{Cause}
-use Rattle.base.specs.declared.faults.Cause.TheVariants as cause
-use Rattle.clauses.specs.Clauses.{Joined, joined, filed, judged, told_clause, over, pivot_at, resolved_by, row_by, Resolved}
+use Rattle.clauses.specs.declared.clause.Found.{Found}
+use Rattle.clauses.specs.declared.clause.Found.TheVariants as found
+use Rattle.clauses.specs.Clauses.{Joined, found_in, is_except, add_by, add, join, told_clause, over, pivot_at, resolved_by, row_by, Resolved}
 
 -- one more literal is written: what stands behind it is as it was
 pub drop_more_set : {X : Type 0} (xs ys : List X) (n : ℕ) (v : X) → drop n xs ≡ drop n ys → drop (n + 1) (set xs n v) ≡ drop (n + 1) ys
 drop_more_set xs ys n v e = drop-set-lt (n + 1) xs n v (omega arith) ∙ sym (drop-drop 1 n xs) ∙ ap (drop 1) e ∙ drop-drop 1 n ys
-
-module _ {X : Type 0} (n : ℕ) (clash : Bool) (xs : List X) (h : n ≤ length xs) where
-  told_by : (b clash : Bool) → told_clause (cond clash (Err cause.BothSigns) (cond b (Err cause.ClauseTooLong) (Ok n))) xs ≡ cond clash (Err 19) (cond b (Err 20) (Ok (take n xs)))
-  told_by b true = refl
-  told_by true false = refl
-  told_by false false = refl
-
-  told_filed : told_clause (judged n clash) xs ≡ filed (joined (take n xs) clash)
-  told_filed =
-      told_by (ltb 1024 n) clash ∙ ap (λ k. cond clash (Err 19) (cond (ltb 1024 k) (Err 20) (Ok (take n xs)))) (sym (length-take-le n xs h))
-
-  over_front : (was : List X) → drop n xs ≡ drop n was → xs ≡ over (take n xs) was
-  over_front was d =
-      sym (take-append-drop n xs) ∙ ap (λ l. take n xs ++ l) (d ∙ ap (λ k. drop k was) (sym (length-take-le n xs h)))
-
-  -- what is told of a row's front where j was built, and what the row holds
-  pub front_told : (j : Joined X) → joined (take n xs) clash ≡ j → (was : List X) → drop n xs ≡ drop n was → (told_clause (judged n clash) xs ≡ filed j) × (xs ≡ over j.clause was)
-  front_told j e was d =
-      let P : Joined X → Type 0 = λ k. (told_clause (judged n clash) xs ≡ filed k) × (xs ≡ over k.clause was) in
-      subst P e (told_filed, over_front was d)
 
 module _ {X : Type 0} (opposite : X → X) where
   pub pivot_none : (xs : List X) (p : ℕ) → (p ≡ 0) ⊎ ((p ≡ 0 → ⊥) × (length xs < p)) → pivot_at opposite xs p ≡ None
@@ -57,15 +38,29 @@ module _ {X : Type 0} (c was : List X) where
   pub take_over : (n : ℕ) → length c ≡ n → take n (over c was) ≡ c
   take_over n e = take_at c (drop (length c) was) n e
 
-  pub drop_over : (n : ℕ) → length c ≤ n → drop n (over c was) ≡ drop n was
-  drop_over n h = drop-append-drop (length c) was c n h refl
+  -- a longer clause written over it leaves nothing of it
+  pub over_over : (d : List X) → length c ≤ length d → over d (over c was) ≡ over d was
+  over_over d h = ap (λ l. d ++ l) (drop-append-drop (length c) was c (length d) h refl)
 
--- two parts written one behind the other
-pub put_mid_over : {X : Type 0} (A B row : List X) (n m k : ℕ) → length A ≡ n → m ≡ n → n + k ≡ length (A ++ B) → put_mid n k (A ++ post_of 0 m row) B ≡ over (A ++ B) row
-put_mid_over A B row n m k e em ek =
-    ap (λ l. l ++ (B ++ drop k (drop n (A ++ drop m row)))) (take_at A (drop m row) n e)
-    ∙ ap (λ l. A ++ (B ++ l)) (ap (drop k) (drop_at A (drop m row) n e ∙ ap (λ i. drop i row) em) ∙ drop-drop k n row ∙ ap (λ i. drop i row) ek)
-    ∙ sym (append_assoc A B (drop (length (A ++ B)) row))
+-- one literal more is written behind the clause
+pub over_more : {X : Type 0} (c was : List X) (n : ℕ) (x : X) → length c ≡ n → n < length was → set (over c was) n x ≡ over (c ++ x ∷ []) was
+over_more c was n x e inside =
+    ap₂ (λ i ys. set (c ++ ys) i x) (sym e) (drop-cons was (length c) x (omega arith))
+    ∙ set-append_seam c (get_or was (length c) x) (drop (suc (length c)) was) x
+    ∙ sym (append_snoc c x (drop (suc (length c)) was)) ∙ ap (λ k. c ++ x ∷ [] ++ drop k was) (sym (length_push c x ∙ add-one (length c)))
+
+-- joining makes no clause shorter
+module _ {X : Type 0} (like : X → X → Bool) (opposite : X → X) (except : Option X) where
+  added_grows : (b : Bool) (f : Found) (j : Joined X) (y : X) → length j.clause ≤ length (cond b j (add_by like opposite f j y)).clause
+  added_grows true f j y = omega arith
+  added_grows false found.Same j y = omega arith
+  added_grows false found.Opposite j y = omega arith
+  added_grows false found.Neither j y = omega (arith, length-append j.clause (y ∷ []))
+
+  pub join_grows : (ys : List X) (j : Joined X) → length j.clause ≤ length (join like opposite except j ys).clause
+  join_grows [] j = omega arith
+  join_grows (y ∷ ys) j =
+      omega (arith, added_grows (is_except like except y) (found_in like y (opposite y) j.clause) j y, join_grows ys (add like opposite except j y))
 
 pub length_without : {X : Type 0} (xs : List X) (p : ℕ) → 1 ≤ p → p ≤ length xs → length (take (p - 1) xs ++ drop p xs) ≡ length xs - 1
 length_without xs p l h = omega (arith, length-append (take (p - 1) xs) (drop p xs), length-take (p - 1) xs, length-drop p xs)

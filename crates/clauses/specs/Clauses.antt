@@ -1,7 +1,7 @@
 -- Clauses as lists of items that can be told alike: membership, containment, and the resolvent.
-use Rattle.std.specs.Prelude.{◌≡◌, ℕ, ◌+◌, ◌-◌, Bool, true, false, cond, ◌&&◌, ◌||◌, List, [], ◌∷◌, ◌++◌, length, take, drop, Some, None, Ok, Err, Option, Result, ◌==◌, nat_le, nat_lt}
+use Rattle.std.specs.Prelude.{◌≡◌, ℕ, ◌+◌, ◌-◌, Bool, true, false, cond, List, [], ◌∷◌, ◌++◌, length, take, drop, Some, None, Ok, Err, Option, Result, ◌==◌, nat_le, nat_lt}
+use Rattle.std.specs.List.{list_any, list_all}
 use Rattle.base.specs.declared.faults.Cause.{Cause}
-use Rattle.base.specs.declared.faults.Cause.TheVariants as cause
 use Rattle.base.specs.Causes.{cause_number}
 use Rattle.clauses.specs.declared.clause.Found.{Found}
 use Rattle.clauses.specs.declared.clause.Found.TheVariants as found
@@ -9,13 +9,11 @@ use Rattle.clauses.specs.declared.clause.Found.TheVariants as found
 module _ {X : Type 0} (like : X → X → Bool) where
   -- whether x stands in a list
   abbrev pub member : X → List X → Bool
-  member x [] = false
-  member x (y ∷ ys) = like y x || member x ys
+  member x ys = list_any (λ y. like y x) ys
 
   -- whether each item of the first list stands in the second
   abbrev pub contained : List X → List X → Bool
-  contained [] ys = true
-  contained (x ∷ xs) ys = member x ys && contained xs ys
+  contained xs ys = list_all (λ x. member x ys) xs
 
   -- what stands first in a list: x, or its complement c, or neither
   abbrev pub found_in : X → X → List X → Found
@@ -37,10 +35,6 @@ joined c b = record { clause = c; clash = b }
 -- what was built, as a clause of at most 1,024 literals, or the cause why it is none
 abbrev pub filed : {X : Type 0} → Joined X → Result (List X) ℕ
 filed j = cond j.clash (Err 19) (cond (nat_lt 1024 (length j.clause)) (Err 20) (Ok j.clause))
-
--- the same, answered by how many literals it has
-abbrev pub judged : ℕ → Bool → Result ℕ Cause
-judged n clash = cond clash (Err cause.BothSigns) (cond (nat_lt 1024 n) (Err cause.ClauseTooLong) (Ok n))
 
 module _ {X : Type 0} (like : X → X → Bool) (opposite : X → X) where
   -- one more literal: kept only where it first stands; where its complement stands, the clause clashes

@@ -1,7 +1,12 @@
 -- Entries, and worlds that make each of them true or false.
-use Rattle.std.specs.Prelude.{◌≡◌, Bool, false, not, ◌&&◌, ◌||◌, List, [], ◌∷◌, ◌==◌, bit_xor}
+use Rattle.std.specs.Prelude.{◌≡◌, ℕ, ◌%◌, Bool, false, not, ◌&&◌, ◌||◌, List, [], ◌∷◌, ◌==◌, bit_xor}
+use Rattle.base.specs.declared.values.ValueWord.{ValueWord}
 use Rattle.base.specs.Words.{equal_words}
 use Rattle.clauses.specs.declared.entry.Entry.{Entry}
+
+-- the entry of a code, of which the lower four bytes are kept
+abbrev pub entry_of : ℕ → ValueWord → Entry
+entry_of code values = record { code = code % 4294967296; values = values }
 
 abbrev pub same_entry : Entry → Entry → Bool
 same_entry a b = a.code == b.code && equal_words a.values b.values

@@ -1,5 +1,6 @@
 // Entries: literals as they are stored.
-ghost use Rattle.clauses.specs.Worlds.{same_entry, complement_entry};
+ghost use Rattle.std.specs.Prelude.{◌≡◌};
+ghost use Rattle.clauses.specs.Worlds.{entry_of, same_entry, complement_entry};
 ghost use Rattle.clauses.specs.EntryLaws.{same_itself, same_back, same_through};
 ghost use Rattle.clauses.specs.EntryLaws;
 
@@ -13,6 +14,18 @@ pub struct Entry {
     pub values: ValueWord,
 }
 
+impl Entry {
+    // The entry of a code, of which the lower four bytes are kept.
+    pub fn of(code: u64, values: ValueWord) -> Entry
+        ensures { result ≡ entry_of code values }
+    {
+        Entry {
+            code: (code % 4_294_967_296) as u32,
+            values,
+        }
+    }
+}
+
 impl Alike for Entry {
     ghost like = { same_entry };
 
@@ -23,7 +36,7 @@ impl Alike for Entry {
     ghost transitive = { same_through };
 
     fn alike(&self, other: &Entry) -> bool {
-        self.code == other.code && self.values.equals(other.values)
+        self == other
     }
 }
 
@@ -45,7 +58,7 @@ impl Literal for Entry {
     fn complement(&self) -> Entry {
         Entry {
             code: self.code ^ 1,
-            values: self.values,
+            ..*self
         }
     }
 }

@@ -5,7 +5,8 @@ ghost use Rattle.clauses.specs.Worlds.{World, same_entry};
 
 use super::entry::Entry;
 
-// Items of which any two are alike or not, which is reflexive, symmetric and transitive.
+// Items of which any two are alike or not, which is reflexive, symmetric and transitive. This is not `Eq`: literals are
+// alike where they are stored alike, which may be so of literals that are not equal.
 pub trait Alike {
     ghost like: { Self → Self → Bool };
 

@@ -90,6 +90,16 @@ found_is y (z ∷ zs) =
     (cases_Bool (same_entry z (complement_entry y))))
     (cases_Bool (same_entry z y))
 
+found_same : {y : Entry} {acc : List Entry} (f : Found) → Finds y acc f → LiteralOf y acc → (LiteralOf (complement_entry y) acc → ⊥) → f ≡ found.Same
+found_same f (finds l) a h = refl
+found_same f (finds_other m) a h = absurd (h m)
+found_same f (finds_none n m) a h = absurd (n a)
+
+found_neither : {y : Entry} {acc : List Entry} (f : Found) → Finds y acc f → (LiteralOf y acc → ⊥) → (LiteralOf (complement_entry y) acc → ⊥) → f ≡ found.Neither
+found_neither f (finds l) n h = absurd (n l)
+found_neither f (finds_other m) n h = absurd (h m)
+found_neither f (finds_none a b) n h = refl
+
 -- one more literal
 data Adds (except : Option Entry) (acc : List Entry) (y : Entry) : Joined Entry → Type 0 where
   excepted : is_except same_entry except y ≡ true → Adds except acc y (joined acc false)
@@ -151,45 +161,22 @@ module _ (except : Option Entry) where
   grown [] acc e = record { more = []; is = sym (append-nil acc); grows = ends }
   grown (y ∷ ys) acc e = grown_by acc ys y (add same_entry complement_entry except (joined acc false) y) (λ a h. grown ys a h) (adds_is except acc y) e
 
-  -- and the clause of what grows
-  joined_one : (acc : List Entry) (y : Entry) (j k : Joined Entry) → Adds except acc y j → Adds except acc y k → j.clash ≡ false → k.clash ≡ false → j ≡ k
-  joined_one acc y j k (excepted a) (excepted b) e f = refl
-  joined_one acc y j k (excepted a) (again b l) e f = refl
-  joined_one acc y j k (excepted a) (clashes b l) e f = absurd (both_ways true f refl)
-  joined_one acc y j k (excepted a) (adds b l m) e f = absurd (both_ways _ b a)
-  joined_one acc y j k (again a l) (excepted b) e f = refl
-  joined_one acc y j k (again a l) (again b m) e f = refl
-  joined_one acc y j k (again a l) (clashes b m) e f = absurd (both_ways true f refl)
-  joined_one acc y j k (again a l) (adds b m o) e f = absurd (m l)
-  joined_one acc y j k (clashes a l) p e f = absurd (both_ways true e refl)
-  joined_one acc y j k (adds a l m) (excepted b) e f = absurd (both_ways _ a b)
-  joined_one acc y j k (adds a l m) (again b o) e f = absurd (l o)
-  joined_one acc y j k (adds a l m) (clashes b o) e f = absurd (both_ways true f refl)
-  joined_one acc y j k (adds a l m) (adds b o p) e f = refl
-
-  -- where the complement is not there, a literal is added with no clash
-  calm_one : (acc : List Entry) (y : Entry) (j : Joined Entry) → Adds except acc y j → (is_except same_entry except y ≡ false → LiteralOf (complement_entry y) acc → ⊥) → j.clash ≡ false
-  calm_one acc y j (excepted a) h = refl
-  calm_one acc y j (again a l) h = refl
-  calm_one acc y j (clashes a l) h = absurd (h a l)
-  calm_one acc y j (adds a l m) h = refl
-
-  added_one : (acc : List Entry) (y : Entry) (k : Joined Entry) → Adds except acc y k → k.clash ≡ false → (is_except same_entry except y ≡ false → LiteralOf (complement_entry y) acc → ⊥) → add same_entry complement_entry except (joined acc false) y ≡ k
-  added_one acc y k a e h = joined_one acc y _ k (adds_is except acc y) a (calm_one acc y _ (adds_is except acc y) h) e
-
   abbrev joins : List Entry → List Entry → Joined Entry
   joins acc ys = join same_entry complement_entry except (joined acc false) ys
 
+  join_next : (acc ys : List Entry) (y : Entry) (j : Joined Entry) → add same_entry complement_entry except (joined acc false) y ≡ j → joins acc (y ∷ ys) ≡ join same_entry complement_entry except j ys
+  join_next acc ys y j e = ap (λ (k : Joined Entry). join same_entry complement_entry except k ys) e
+
+  -- and the clause of what grows
   grows_joined : {acc ys more : List Entry} → Grows except acc ys more → Consistent (acc ++ more) → joins acc ys ≡ joined (acc ++ more) false
   grows_joined {acc} ends k = ap (λ (c : List Entry). joined c false) (sym (append-nil acc))
-  grows_joined {acc} (skips {ys} {more} {y} t g) k =
-      ap (λ (j : Joined Entry). join same_entry complement_entry except j ys) (added_one acc y (joined acc false) (excepted t) refl (λ f. absurd (both_ways _ f t)))
-      ∙ grows_joined g k
+  grows_joined {acc} (skips {ys} {more} {y} t g) k = join_next acc ys y (joined acc false) (cond-true _ _ _ t) ∙ grows_joined g k
   grows_joined {acc} (repeats {ys} {more} {y} f l g) k =
-      ap (λ (j : Joined Entry). join same_entry complement_entry except j ys) (added_one acc y (joined acc false) (again f l) refl (λ _ m. k y (literal_left acc more l) (literal_left acc more m)))
-      ∙ grows_joined g k
+      let found : found_in same_entry y (complement_entry y) acc ≡ found.Same = found_same _ (found_is y acc) l (λ m. k y (literal_left acc more l) (literal_left acc more m)) in
+      join_next acc ys y (joined acc false) (cond-false _ _ _ f ∙ ap (λ w. add_by same_entry complement_entry w (joined acc false) y) found) ∙ grows_joined g k
   grows_joined {acc} (appends {ys} {more} {y} f l m g) k =
-      ap (λ (j : Joined Entry). join same_entry complement_entry except j ys) (added_one acc y (joined (acc ++ y ∷ []) false) (adds f l m) refl (λ _. m))
+      let found : found_in same_entry y (complement_entry y) acc ≡ found.Neither = found_neither _ (found_is y acc) l m in
+      join_next acc ys y (joined (acc ++ y ∷ []) false) (cond-false _ _ _ f ∙ ap (λ w. add_by same_entry complement_entry w (joined acc false) y) found)
       ∙ grows_joined g (subst Consistent (sym (append_assoc acc (y ∷ []) more)) k)
       ∙ ap (λ (c : List Entry). joined c false) (append_assoc acc (y ∷ []) more)
 
@@ -342,8 +329,8 @@ drop_there [] behind pivot = refl
 drop_there (x ∷ before) behind pivot = drop_there before behind pivot
 
 pivot_bounds : (xs : List Entry) (p : ℕ) (c : Entry) → pivot_at complement_entry xs p ≡ Some c → (1 ≤ p) × (p ≤ length xs)
-pivot_bounds [] p c e = let z : ◌≡◌ {A = ℕ} 0 1 = cc in absurd (omega arith)
-pivot_bounds (x ∷ xs) zero c e = let z : ◌≡◌ {A = ℕ} 0 1 = cc in absurd (omega arith)
+pivot_bounds [] p c e = absurd (cc)
+pivot_bounds (x ∷ xs) zero c e = absurd (cc)
 pivot_bounds (x ∷ xs) (suc zero) c e = (omega arith, omega arith)
 pivot_bounds (x ∷ xs) (suc (suc n)) c e =
     let less : suc (suc n) - 1 ≡ suc n = omega arith in

@@ -1,43 +1,26 @@
 -- Histories: over every run, what an open case holds was derived since its opening, its steps and settlings are lawful,
 -- and its slip says exactly which goals were settled.
-use Rattle.std.proofs.Common.{◌≡◌, ℕ, zero, suc, ◌+◌, ◌-◌, ◌<◌, ◌≤◌, Bool, true, false, cond, eqb, ◌⊎◌, List, [], ◌∷◌, ◌++◌, length, get_or, set, Some, None, Ok, Err, Option, Result, sym, refl, ap, ◌∙◌, subst, inl, inr, ⊎_elim, arith}
-use Rattle.std.specs.List.{AllByRecursion}
+use Rattle.std.proofs.Common.{◌≡◌, ℕ, zero, suc, ◌+◌, ◌-◌, ◌<◌, ◌≤◌, Bool, true, false, cond, eqb, List, [], ◌∷◌, ◌++◌, length, get_or, set, Some, None, Ok, Err, Option, Result, sym, refl, ap, ◌∙◌, subst, ⊎_elim, arith}
+use Rattle.std.specs.List.{AllByRecursion, Contains}
 use Rattle.std.proofs.ByRecursion.{All-push}
+use Rattle.std.proofs.lemmas.List.Elements.{Contains-append_left, Contains-push, Contains-push_cases}
 use Rattle.std.proofs.lemmas.List.{get_or_append_left, get_or-set_same, get_or-set_other, length-replicate, length-set, length_push}
-use Rattle.std.proofs.lemmas.Bool.{both_ways, false≢true, cond_both, cond-true, cond-false, cases_Bool, cases_eq, eqb-true, eq-eqb}
+use Rattle.std.proofs.lemmas.Bool.{both_ways, false≢true, cond_both, cond-true, cond-false, cases_Bool, cases_eq, eq-eqb}
 use Rattle.base.specs.Causes.{Refusal}
 use Rattle.clauses.specs.declared.entry.Entry.{Entry}
+use Rattle.records.specs.declared.slip.Slip.{Slip}
 use Rattle.records.specs.declared.slip.Slip.TheVariants as slip
 use Rattle.records.specs.declared.step.Step.{Step}
 use Rattle.records.specs.declared.step.Step.TheVariants as step
 use Rattle.records.specs.Records.{step_from}
 use Rattle.engine.specs.Shelves.{clause_at}
-use Rattle.engine.specs.Plain.{Rules, State, start, on_ok, on_case, opened, is_settled, step_result, take_result, lowest_open, verdict_slip, ending, is_case, close_slip}
+use Rattle.engine.specs.Plain.{Rules, State, start, on_ok, on_some, opened, is_settled, step_result, take_result, lowest_open, verdict_slip, ending, is_case, close_slip}
 use Rattle.engine.specs.Runs.{Call, opens, steps, takes, closes, opened_state, stepped_state, next, run}
-use Rattle.engine.specs.Histories.{LiteralOf, Filed, Allows, premise, resolve, noted_if, noted_take, noted, history, Derives, nothing, more, settling, Among, here, there, Settles, SettledBy, StepsLawful, RunsLawful}
-use Rattle.engine.specs.Lawful.{LawfulSteps, AllRunsLawful}
+use Rattle.engine.specs.Histories.{LiteralOf, Filed, Allows, premise, resolve, noted_if, noted_take, noted, history, Derives, nothing, more, settling, Settles, SettledBy}
+use Rattle.engine.specs.Lawful.{AllRunsLawful}
 use Rattle.engine.proofs.RowLaws.{err_ok, same_ok}
-use Rattle.engine.proofs.Soundness.{none_some, case_both, ok_both, none_settled, lowest_all, unproved_never}
+use Rattle.engine.proofs.Ways.{none_some, case_both, ok_both, none_settled, lowest_all, unproved_never}
 use Rattle.engine.proofs.StepRelations.{Fit, outcome, premise_accepted, resolve_accepted, settle_marks, lawful_steps, lawful_settlings}
-
--- steps among those of a history
-none_among : {p : Step} → Among p [] → ⊥
-none_among a = elim a [ ]
-
-among_push : {p : Step} (done : List Step) (q : Step) → Among p done → Among p (done ++ q ∷ [])
-among_push [] q a = absurd (none_among a)
-among_push (d ∷ done) q here = here
-among_push (d ∷ done) q (there a) = there (among_push done q a)
-
-among_last : (done : List Step) (p : Step) → Among p (done ++ p ∷ [])
-among_last [] p = here
-among_last (d ∷ done) p = there (among_last done p)
-
-among_cases : {p : Step} (done : List Step) (q : Step) → Among p (done ++ q ∷ []) → Among p done ⊎ (p ≡ q)
-among_cases [] q here = inr refl
-among_cases [] q (there a) = absurd (none_among a)
-among_cases (d ∷ done) q here = inl here
-among_cases (d ∷ done) q (there a) = ⊎_elim (λ l. inl (there l)) (λ e. inr e) (among_cases done q a)
 
 -- clauses that were filed stay
 filed_push : (cs : List (List Entry)) (c : List Entry) (k : ℕ) → Filed cs k → Filed (cs ++ c ∷ []) k
@@ -50,7 +33,7 @@ clause_push cs c k f =
     ap (λ (l : List Entry). cond (eqb k 0) [] l) (get_or_append_left cs (c ∷ []) [] (k - 1) (omega arith))
 
 -- the lowest open goal
-all_lowest : (s : State) (n g : ℕ) → ((k : ℕ) → g ≤ k → k < g + n → is_settled s k ≡ true) → lowest_open s g n ≡ 0
+all_lowest : (s : State) (n g : ℕ) → ((k : ℕ) → g ≤ k → k < g + n → is_settled s k ≡ true) → lowest_open s g n ≡ None
 all_lowest s zero g h = refl
 all_lowest s (suc n) g h = cond-true _ _ _ (h g (omega arith) (omega arith)) ∙ all_lowest s n (g + 1) (λ k l m. h k (omega arith) (omega arith))
 
@@ -60,12 +43,12 @@ record Lowest (s : State) (n a g : ℕ) : Type 0 where
   is_open : is_settled s g ≡ false
   below : (h : ℕ) → a ≤ h → h < g → is_settled s h ≡ true
 
-lowest_first : (s : State) (n a g : ℕ) → 1 ≤ g → lowest_open s a n ≡ g → Lowest s n a g
-lowest_first s zero a g pos e = absurd (omega arith)
-lowest_first s (suc n) a g pos e =
+lowest_first : (s : State) (n a g : ℕ) → lowest_open s a n ≡ Some g → Lowest s n a g
+lowest_first s zero a g e = absurd (none_some g e)
+lowest_first s (suc n) a g e =
     ⊎_elim
     (λ t.
-    let later = lowest_first s n (a + 1) g pos (sym (cond-true _ _ _ t) ∙ e) in
+    let later = lowest_first s n (a + 1) g (sym (cond-true _ _ _ t) ∙ e) in
     let from : a + 1 ≤ g = later.low in
     let to : g < a + 1 + n = later.high in
     record {
@@ -77,7 +60,8 @@ lowest_first s (suc n) a g pos e =
           ⊎_elim (λ same. subst (λ (i : ℕ). is_settled s i ≡ true) (sym same) t) (λ other. later.below h (let o : h ≡ a → ⊥ = other in omega arith) m) (cases_eq h a);
     })
     (λ f.
-    let same : a ≡ g = sym (cond-false _ _ _ f) ∙ e in
+    let found : Some a ≡ Some g = sym (cond-false _ _ _ f) ∙ e in
+    let same : a ≡ g = cc in
     record { low = omega arith; high = omega arith; is_open = subst (λ (i : ℕ). is_settled s i ≡ false) same f; below = λ h l m. absurd (omega arith) })
     (cases_Bool (is_settled s a))
 
@@ -85,7 +69,7 @@ same_unproved : (n k g m l h : ℕ) → slip.Unproved n k g ≡ slip.Unproved m 
 same_unproved n k g m l h e = (cc, cc)
 
 -- an accepted step is one of an open case
-open_by : {X : Type 0} (o : Option ℕ) (e : Refusal) (x : Result X Refusal) (y : X) → on_case o (Err e) (λ _. x) ≡ Ok y → (k : ℕ) × (o ≡ Some k)
+open_by : {X : Type 0} (o : Option ℕ) (e : Refusal) (x : Result X Refusal) (y : X) → on_some o (Err e) (λ _. x) ≡ Ok y → (k : ℕ) × (o ≡ Some k)
 open_by None e x y q = absurd (err_ok y e q)
 open_by (Some k) e x y q = (k, refl)
 
@@ -97,30 +81,32 @@ module _ (r : Rules) (bound : r.goals ≤ 16384) where
   open_at s (step.Settle g c) y e = open_by s.case _ _ y e
 
   -- what an open case holds
-  record Holds (s : State) (done : List Step) : Type 0 where
-    clauses : AllByRecursion Fit s.list
-    derived : Derives r done s.list
-    marks : (g k : ℕ) → Among (step.Settle g k) done → is_settled s g ≡ true
-    settled_by : (g : ℕ) → 1 ≤ g → is_settled s g ≡ true → SettledBy r done s.list g
-    long : length s.settled ≡ 16384
+  pub record Holds (s : State) (done : List Step) : Type 0 where
+    pub accepted : r.opening ≡ Ok tt
+    pub clauses : AllByRecursion Fit s.list
+    pub derived : Derives r done s.list
+    pub marks : (g k : ℕ) → Contains done (step.Settle g k) → is_settled s g ≡ true
+    pub settled_by : (g : ℕ) → 1 ≤ g → is_settled s g ≡ true → SettledBy r done s.list g
+    pub long : length s.settled ≡ 16384
 
-  abbrev Stands : State → List Step → Type 0
+  abbrev pub Stands : State → List Step → Type 0
   Stands s done = (k : ℕ) → s.case ≡ Some k → Holds s done
 
   not_settling : {cs : List (List Entry)} {p : Step} {c : List Entry} (g k : ℕ) → Allows r cs p c → step.Settle g k ≡ p → ⊥
-  not_settling g k (premise p claimed a e f calm) q = let z : ◌≡◌ {A = ℕ} 0 1 = cc in omega arith
-  not_settling g k (resolve first second position a b v calm) q = let z : ◌≡◌ {A = ℕ} 0 1 = cc in omega arith
+  not_settling g k (premise p claimed a e f calm) q = cc
+  not_settling g k (resolve first second position a b v calm) q = cc
 
   pushed_holds : (s : State) (done : List Step) (p : Step) (c : List Entry) (settled : List Bool) (o : Option ℕ) → settled ≡ s.settled → Holds s done → Allows r s.list p c → Fit c → Holds (record { case = o; list = s.list ++ c ∷ []; settled = settled }) (done ++ p ∷ [])
   pushed_holds s done p c settled o same h a fit =
       record {
+        accepted = h.accepted;
         clauses = All-push Fit s.list c h.clauses fit;
         derived = more p h.derived a;
-        marks = λ g k m. ap (λ (l : List Bool). get_or l (g - 1) false) same ∙ ⊎_elim (λ b. h.marks g k b) (λ e. absurd (not_settling g k a e)) (among_cases done p m);
+        marks = λ g k m. ap (λ (l : List Bool). get_or l (g - 1) false) same ∙ ⊎_elim (λ b. h.marks g k b) (λ e. absurd (not_settling g k a (sym e))) (Contains-push_cases done p (step.Settle g k) m);
         settled_by =
             λ g pos e.
             let b = h.settled_by g pos (ap (λ (l : List Bool). get_or l (g - 1) false) (sym same) ∙ e) in
-            (b.0, among_push done p b.1, filed_push s.list c b.0 b.2, λ x l. b.3 x (subst (LiteralOf x) (clause_push s.list c b.0 b.2) l));
+            (b.0, Contains-append_left done (p ∷ []) (step.Settle g b.0) b.1, filed_push s.list c b.0 b.2, λ x l. b.3 x (subst (LiteralOf x) (clause_push s.list c b.0 b.2) l));
         long = ap length same ∙ h.long;
       }
 
@@ -131,6 +117,7 @@ module _ (r : Rules) (bound : r.goals ≤ 16384) where
       let long : length s.settled ≡ 16384 = h.long in
       let inside : g - 1 < length s.settled = omega arith in
       record {
+        accepted = h.accepted;
         clauses = h.clauses;
         derived = settling g c h.derived;
         marks =
@@ -139,15 +126,15 @@ module _ (r : Rules) (bound : r.goals ≤ 16384) where
             (λ same. ap (λ (j : ℕ). get_or (set s.settled (g - 1) true) j false) same ∙ get_or-set_same s.settled (g - 1) true false inside)
             (λ other.
             get_or-set_other s.settled (g - 1) (i - 1) true false other
-            ∙ ⊎_elim (λ b. h.marks i k b) (λ e. let z : i ≡ g = cc in absurd (other (ap (λ (j : ℕ). j - 1) z))) (among_cases done (step.Settle g c) m))
+            ∙ ⊎_elim (λ b. h.marks i k b) (λ e. let z : i ≡ g = cc in absurd (other (ap (λ (j : ℕ). j - 1) z))) (Contains-push_cases done (step.Settle g c) (step.Settle i k) m))
             (cases_eq (i - 1) (g - 1));
         settled_by =
             λ i pos e.
             ⊎_elim
-            (λ same. subst (SettledBy r (done ++ step.Settle g c ∷ []) s.list) (sym same) (c, among_last done (step.Settle g c), t.2, t.3))
+            (λ same. subst (SettledBy r (done ++ step.Settle g c ∷ []) s.list) (sym same) (c, Contains-push done (step.Settle g c), t.2, t.3))
             (λ other.
             let b = h.settled_by i pos (sym (get_or-set_other s.settled (g - 1) (i - 1) true false (λ z. other (omega arith))) ∙ e) in
-            (b.0, among_push done (step.Settle g c) b.1, b.2, b.3))
+            (b.0, Contains-append_left done (step.Settle g c ∷ []) (step.Settle i b.0) b.1, b.2, b.3))
             (cases_eq i g);
         long = length-set s.settled (g - 1) true ∙ long;
       }
@@ -190,52 +177,54 @@ module _ (r : Rules) (bound : r.goals ≤ 16384) where
       ok_both (OpensWell s done) (λ _. h) r.opening _
       (λ u e k ke.
       record {
+        accepted = e;
         clauses = tt;
         derived = nothing;
-        marks = λ g i a. absurd (none_among a);
+        marks = λ g i a. let none : a.0 < 0 = a.1 in absurd (omega arith);
         settled_by = λ g pos se. absurd (false≢true (sym (none_settled 16384 (g - 1)) ∙ se));
         long = length-replicate 16384 false;
       }))
       (λ _ _. h)
 
-  next_stands : (s : State) (done : List Step) (c : Call) → Stands s done → Stands (next r s c) (noted r s done c)
+  pub next_stands : (s : State) (done : List Step) (c : Call) → Stands s done → Stands (next r s c) (noted r s done c)
   next_stands s done (opens n) h = open_stands s done n h
   next_stands s done (steps p) h = step_stands s done p h
   next_stands s done (takes bytes) h = take_stands s done bytes (step_from bytes) refl h
   next_stands s done (closes n) h = cond_both (is_case s n) _ _ (λ (t : State). Stands t done) (λ _ k e. absurd (none_some k e)) (λ _. h)
 
-  run_stands : (s : State) (done : List Step) (cs : List Call) → Stands s done → Stands (run r s cs) (history r s done cs)
+  pub run_stands : (s : State) (done : List Step) (cs : List Call) → Stands s done → Stands (run r s cs) (history r s done cs)
   run_stands s done [] h = h
   run_stands s done (c ∷ cs) h = run_stands (next r s c) (noted r s done c) cs (next_stands s done c h)
 
   -- how the open case ends
   module _ (s : State) (done : List Step) (n : ℕ) (e : s.case ≡ Some n) (h : Holds s done) where
     ending_is : close_slip r s n ≡ ending r s n
-    ending_is = cond-true _ _ _ (ap (λ (o : Option ℕ). on_case o false (λ k. eqb k n)) e ∙ eq-eqb n n refl)
+    ending_is = cond-true _ _ _ (ap (λ (o : Option ℕ). on_some o false (λ k. eqb k n)) e ∙ eq-eqb n n refl)
 
     all_verdict : ((g : ℕ) → 1 ≤ g → g ≤ r.goals → SettledBy r done s.list g) → close_slip r s n ≡ verdict_slip r.says n (length s.list)
     all_verdict all =
         ending_is
-        ∙ cond-true _ _ _ (eq-eqb _ 0 (all_lowest s r.goals 1 (λ g low high. let b = all g low (omega arith) in h.marks g b.0 b.1)))
+        ∙ ap (λ (o : Option ℕ). on_some o (verdict_slip r.says n (length s.list)) (λ g. slip.Unproved n (length s.list) g))
+        (all_lowest s r.goals 1 (λ g low high. let b = all g low (omega arith) in h.marks g b.0 b.1))
 
     verdict_all : (k : ℕ) → close_slip r s n ≡ verdict_slip r.says n k → (g : ℕ) → 1 ≤ g → g ≤ r.goals → SettledBy r done s.list g
-    verdict_all k q g low high =
-        ⊎_elim
-        (λ t. h.settled_by g low (lowest_all s r.goals 1 (omega arith) (eqb-true (lowest_open s 1 r.goals) 0 t) g low (omega arith)))
-        (λ f. absurd (unproved_never r.says n (length s.list) (lowest_open s 1 r.goals) n k (sym (cond-false _ _ _ f) ∙ sym ending_is ∙ q)))
-        (cases_Bool (eqb (lowest_open s 1 r.goals) 0))
+    verdict_all k q =
+        case_both (λ (x : Slip). x ≡ verdict_slip r.says n k → (g : ℕ) → 1 ≤ g → g ≤ r.goals → SettledBy r done s.list g) (lowest_open s 1 r.goals) _ _
+        (λ none _ g low high. h.settled_by g low (lowest_all s r.goals 1 none g low (omega arith)))
+        (λ i _ z. absurd (unproved_never r.says n (length s.list) i n k z))
+        (sym ending_is ∙ q)
 
     unproved_lowest : (g k : ℕ) → close_slip r s n ≡ slip.Unproved n k g → (1 ≤ g) × (g ≤ r.goals) × (k ≡ length s.list) × (SettledBy r done s.list g → ⊥) × ((i : ℕ) → 1 ≤ i → i < g → SettledBy r done s.list i)
     unproved_lowest g k q =
-        ⊎_elim
-        (λ t. absurd (unproved_never r.says n k g n (length s.list) (sym q ∙ ending_is ∙ cond-true _ _ _ t)))
-        (λ f.
-        let same = same_unproved n (length s.list) (lowest_open s 1 r.goals) n k g (sym (cond-false _ _ _ f) ∙ sym ending_is ∙ q) in
-        let pos : 1 ≤ g = ⊎_elim (λ z. absurd (both_ways _ f (eq-eqb (lowest_open s 1 r.goals) 0 (same.1 ∙ z)))) (λ z. let o : g ≡ 0 → ⊥ = z in omega arith) (cases_eq g 0) in
-        let first = lowest_first s r.goals 1 g pos same.1 in
+        case_both (λ (x : Slip). x ≡ slip.Unproved n k g → (1 ≤ g) × (g ≤ r.goals) × (k ≡ length s.list) × (SettledBy r done s.list g → ⊥) × ((i : ℕ) → 1 ≤ i → i < g → SettledBy r done s.list i)) (lowest_open s 1 r.goals) _ _
+        (λ _ z. absurd (unproved_never r.says n k g n (length s.list) (sym z)))
+        (λ i e z.
+        let same = same_unproved n (length s.list) i n k g z in
+        let first = lowest_first s r.goals 1 g (e ∙ ap Some same.1) in
+        let from : 1 ≤ g = first.low in
         let to : g < 1 + r.goals = first.high in
-        (pos, omega arith, sym same.0, λ b. both_ways _ first.is_open (h.marks g b.0 b.1), λ i low less. h.settled_by i low (first.below i low less)))
-        (cases_Bool (eqb (lowest_open s 1 r.goals) 0))
+        (from, omega arith, sym same.0, λ b. both_ways _ first.is_open (h.marks g b.0 b.1), λ i low less. h.settled_by i low (first.below i low less)))
+        (sym ending_is ∙ q)
 
 -- every run is lawful
 pub all_runs_lawful : (r : Rules) → r.goals ≤ 16384 → AllRunsLawful r
@@ -251,17 +240,3 @@ all_runs_lawful r bound list calls n e =
       verdict_only = verdict_all r bound s done n e h;
       unproved = unproved_lowest r bound s done n e h;
     }
-
-steps_lawful : (r : Rules) (s : State) → LawfulSteps r s → StepsLawful r s
-steps_lawful r s l =
-    record {
-      refused = l.refused;
-      kept_out = l.kept_out;
-      appends = λ p c n t a e. let q = l.appends p c n t a e in (ap (λ (x : State). x.list) q.1, q.0);
-      allowed = l.allowed;
-    }
-
-pub runs_lawful : (r : Rules) → RunsLawful r
-runs_lawful r bound list calls n e =
-    let l = all_runs_lawful r bound list calls n e in
-    (l.derived, steps_lawful r (run r (start list) calls) l.steps_are, l.settlings_are.accepted, l.gives_verdict, l.verdict_only, l.unproved)

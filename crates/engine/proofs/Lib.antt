@@ -1,9 +1,9 @@
 pub mod RowLaws
-pub mod StepLaws
-pub mod Soundness
-pub mod RunLaws
+pub mod Ways
 pub mod ClauseRelations
 pub mod StepRelations
 pub mod HistoryLaws
+pub mod Soundness
+pub mod RunLaws
 pub mod QuestionLaws
 pub mod VerdictLaws

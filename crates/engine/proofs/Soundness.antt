@@ -1,281 +1,123 @@
--- Soundness: over every run, each clause on the shelf of an open case and each settled goal is true in every world of the
--- side, so a slip with the side's verdict says that every goal is.
-use Rattle.std.proofs.Common.{◌≡◌, ℕ, zero, suc, ◌+◌, ◌-◌, ◌<◌, ◌≤◌, Bool, true, false, cond, ◌&&◌, eqb, ltb, leb, List, [], ◌∷◌, length, get_or, replicate, Some, None, Ok, Err, Option, Result, sym, refl, ◌∙◌, subst, ⊎_elim, arith}
+-- Soundness: what was derived is true in every world of the side, and so is each goal that it settles; so a slip with the
+-- side's verdict says that every goal is.
+use Rattle.std.proofs.Common.{◌≡◌, ℕ, ◌≤◌, Bool, true, false, eqb, List, [], ◌∷◌, ◌++◌, None, Ok, Err, Result, refl, ◌∙◌, subst, arith}
 use Rattle.std.specs.List.{AllByRecursion}
-use Rattle.std.proofs.ByRecursion.{All-get_or, All-push}
-use Rattle.std.proofs.lemmas.List.{get_or-set_other}
-use Rattle.std.proofs.lemmas.Bool.{false≢true, cond_both, cond-true, cond-false, cases_Bool, cases_eq, and_parts, leb-true, eqb-true, ne_eqb}
+use Rattle.std.proofs.ByRecursion.{All-push}
+use Rattle.std.proofs.lemmas.Bool.{false≢true, cond_both}
 use Rattle.base.specs.Causes.{Refusal}
 use Rattle.clauses.specs.declared.entry.Entry.{Entry}
-use Rattle.clauses.specs.Worlds.{same_entry, complement_entry, true_in}
-use Rattle.clauses.specs.Clauses.{Joined, contained, once, filed, member, pivot_at, resolvent, resolved_by}
+use Rattle.clauses.specs.Worlds.{true_in}
+use Rattle.clauses.specs.Clauses.{Joined}
 use Rattle.clauses.proofs.ResolutionLaws.{contained_true, once_true, resolvent_true}
-use Rattle.records.specs.declared.step.Premise.{Premise}
-use Rattle.records.specs.declared.step.Step.{Step}
-use Rattle.records.specs.declared.step.Step.TheVariants as step
 use Rattle.records.specs.declared.slip.Slip.{Slip}
 use Rattle.records.specs.declared.slip.Slip.TheVariants as slip
-use Rattle.records.specs.Records.{step_from}
+use Rattle.records.specs.declared.step.Step.{Step}
 use Rattle.engine.specs.declared.side.Side.{Ghosts as SideGhosts}
 use Rattle.engine.specs.declared.side.Verdict.{Verdict}
 use Rattle.engine.specs.declared.side.Verdict.TheVariants as verdict
-use Rattle.engine.specs.Shelves.{clause_at, has_room}
-use Rattle.engine.specs.Plain.{Rules, State, start, on_ok, on_case, here, judged, opened, file, numbered, premise_step, resolve_step, is_settled, are_there, settle_step, step_result, take_result, take_used, lowest_open, verdict_slip, is_case, close_slip, closed}
-use Rattle.engine.specs.Runs.{Call, opens, steps, takes, closes, ends, opened_state, stepped_state, next, opened_answer, stepped_answer, taken_answer, answer, run, answers, rules_with, Sound}
+use Rattle.engine.specs.Shelves.{clause_at}
+use Rattle.engine.specs.Plain.{Rules, State, start, opened, step_result, take_result, take_used, lowest_open, verdict_slip, is_case, close_slip}
+use Rattle.engine.specs.Runs.{Call, opens, steps, takes, closes, ends, next, opened_answer, stepped_answer, taken_answer, answer, run, answers}
+use Rattle.engine.specs.Means.{rules_with}
+use Rattle.engine.specs.Histories.{Allows, premise, resolve, Derives, nothing, more, settling, SettledBy, noted, history}
 use Rattle.engine.specs.Verdicts.{Concluded, SlipHolds}
-use Rattle.engine.proofs.RowLaws.{err_ok, same_ok}
-
-pub none_some : (k : ℕ) → ◌≡◌ {A = Option ℕ} None (Some k) → ⊥
-none_some k e = let z : ◌≡◌ {A = ℕ} 0 1 = cc in omega arith
-
--- ways through the plain case's tests
-pub case_both : {X : Type 0} (P : X → Type 0) (o : Option ℕ) (x : X) (f : ℕ → X) → (o ≡ None → P x) → ((k : ℕ) → o ≡ Some k → P (f k)) → P (on_case o x f)
-case_both P None x f p q = p refl
-case_both P (Some k) x f p q = q k refl
-
-module _ {X Y : Type 0} (P : Result Y Refusal → Type 0) (errs : (e : Refusal) → P (Err e)) where
-  pub ok_both : (x : Result X Refusal) (f : X → Result Y Refusal) → ((v : X) → x ≡ Ok v → P (f v)) → P (on_ok x f)
-  ok_both (Ok v) f h = h v refl
-  ok_both (Err e) f h = errs e
-
-  pub judged_both : (s : State) (x : Result X ℕ) (f : X → Result Y Refusal) → ((v : X) → x ≡ Ok v → P (f v)) → P (on_ok (judged s x) f)
-  judged_both s (Ok v) f h = h v refl
-  judged_both s (Err c) f h = errs (here s c)
-
--- a clause that is filed did not clash
-filed_by : (b t : Bool) (c d : List Entry) → ◌≡◌ {A = Result (List Entry) ℕ} (cond b (Err 19) (cond t (Err 20) (Ok c))) (Ok d) → (b ≡ false) × (c ≡ d)
-filed_by true t c d e = absurd (err_ok d 19 e)
-filed_by false true c d e = absurd (err_ok d 20 e)
-filed_by false false c d e = (refl, same_ok c d e)
-
-pub filed_parts : (j : Joined Entry) (d : List Entry) → filed j ≡ Ok d → (j.clash ≡ false) × (j.clause ≡ d)
-filed_parts j d e = filed_by j.clash (ltb 1024 (length j.clause)) j.clause d e
-
-pub none_settled : (n i : ℕ) → get_or (replicate n false) i false ≡ false
-none_settled zero i = refl
-none_settled (suc n) zero = refl
-none_settled (suc n) (suc i) = none_settled n i
-
--- where no goal from g on is the lowest open one, all are settled
-pub lowest_all : (st : State) (n g : ℕ) → 1 ≤ g → lowest_open st g n ≡ 0 → (k : ℕ) → g ≤ k → k < g + n → is_settled st k ≡ true
-lowest_all st zero g pos e k l h = absurd (omega arith)
-lowest_all st (suc n) g pos e k l h =
-    ⊎_elim
-    (λ t.
-    ⊎_elim
-    (λ same. subst (λ (i : ℕ). is_settled st i ≡ true) (sym same) t)
-    (λ other. lowest_all st n (g + 1) (omega arith) (sym (cond-true _ _ _ t) ∙ e) k (let o : k ≡ g → ⊥ = other in omega arith) (omega arith))
-    (cases_eq k g))
-    (λ f. let z : g ≡ 0 = sym (cond-false _ _ _ f) ∙ e in absurd (omega arith))
-    (cases_Bool (is_settled st g))
+use Rattle.engine.proofs.RowLaws.{filed_all}
+use Rattle.engine.proofs.Ways.{none_some, case_both, lowest_all, unproved_never}
+use Rattle.engine.proofs.ClauseRelations.{first_once, all_contained, from_resolvent}
+use Rattle.engine.proofs.StepRelations.{Fit}
+use Rattle.engine.proofs.HistoryLaws.{Holds, Stands, next_stands, run_stands}
 
 stray_never : (v : Verdict) (n m c : ℕ) → slip.Stray n ≡ verdict_slip v m c → ⊥
-stray_never verdict.True n m c e = let z : ◌≡◌ {A = ℕ} 0 1 = cc in omega arith
-stray_never verdict.False n m c e = let z : ◌≡◌ {A = ℕ} 0 1 = cc in omega arith
-
-pub unproved_never : (v : Verdict) (n k g m c : ℕ) → slip.Unproved n k g ≡ verdict_slip v m c → ⊥
-unproved_never verdict.True n k g m c e = let z : ◌≡◌ {A = ℕ} 0 1 = cc in omega arith
-unproved_never verdict.False n k g m c e = let z : ◌≡◌ {A = ℕ} 0 1 = cc in omega arith
+stray_never verdict.True n m c e = cc
+stray_never verdict.False n m c e = cc
 
 -- which answers are no slips
 opened_never : (n : ℕ) (o : Result State Refusal) (x : Slip) → opened_answer n o ≡ ends x → ⊥
-opened_never n (Ok st) x e = let z : ◌≡◌ {A = ℕ} 0 1 = cc in omega arith
-opened_never n (Err f) x e = let z : ◌≡◌ {A = ℕ} 0 1 = cc in omega arith
+opened_never n (Ok st) x e = cc
+opened_never n (Err f) x e = cc
 
 stepped_never : (o : Result (ℕ × State) Refusal) (x : Slip) → stepped_answer o ≡ ends x → ⊥
-stepped_never (Ok y) x e = let z : ◌≡◌ {A = ℕ} 0 1 = cc in omega arith
-stepped_never (Err f) x e = let z : ◌≡◌ {A = ℕ} 0 1 = cc in omega arith
+stepped_never (Ok y) x e = cc
+stepped_never (Err f) x e = cc
 
 taken_never : (used : ℕ) (o : Result (ℕ × State) Refusal) (x : Slip) → taken_answer used o ≡ ends x → ⊥
-taken_never used (Ok y) x e = let z : ◌≡◌ {A = ℕ} 0 1 = cc in omega arith
-taken_never used (Err f) x e = let z : ◌≡◌ {A = ℕ} 0 1 = cc in omega arith
+taken_never used (Ok y) x e = cc
+taken_never used (Err f) x e = cc
 
 same_ends : (x y : Slip) → ends x ≡ ends y → x ≡ y
 same_ends x y e = cc
 
-module _ {S : Type 0} (side : SideGhosts S) (s : S) where
+all_front : (P : List Entry → Type 0) (xs ys : List (List Entry)) → AllByRecursion P (xs ++ ys) → AllByRecursion P xs
+all_front P [] ys h = tt
+all_front P (x ∷ xs) ys h = (h.0, all_front P xs ys h.1)
+
+module _ {S : Type 0} (side : SideGhosts S) (s : S) (most width : ℕ) where
+  abbrev r : Rules
+  r = rules_with side s most width
+
   -- a clause is true in every world
   abbrev True : List Entry → Type 0
   True c = (m : side.Model s) → true_in (side.world s m) c ≡ true
 
-  record Holds (list : List (List Entry)) (settled : List Bool) : Type 0 where
-    accepts : side.opening s ≡ Ok tt
-    clauses : AllByRecursion True list
-    goals : (g : ℕ) → 1 ≤ g → get_or settled (g - 1) false ≡ true → True (side.goal s g)
+  module _ (accepted : side.opening s ≡ Ok tt) where
+    -- what the rules allow is true where the clauses are
+    allows_true : {p : Step} {c : List Entry} (cs : List (List Entry)) → AllByRecursion Fit cs → AllByRecursion True cs → Allows r cs p c → True c
+    allows_true cs fits h (premise {c} p claimed a e f calm) m =
+        subst (λ (j : Joined Entry). j.clash ≡ false → true_in (side.world s m) j.clause ≡ true) (first_once claimed c f calm)
+        (once_true (side.world s m) claimed (side.truthful s accepted p claimed e m)) refl
+    allows_true cs fits h (resolve {c} first second position a b v calm) m =
+        let t = from_resolvent (clause_at cs first) (clause_at cs second) position c (filed_all Fit cs second fits b).once_each v calm in
+        subst (λ (j : Joined Entry). j.clash ≡ false → true_in (side.world s m) j.clause ≡ true) t.is
+        (resolvent_true (side.world s m) (clause_at cs first) (clause_at cs second) position t.pivot (filed_all True cs first h a m) (filed_all True cs second h b m) t.there_is) refl
 
-  -- what holds while a case is open
-  abbrev Stands : State → Type 0
-  Stands st = (k : ℕ) → st.case ≡ Some k → Holds st.list st.settled
+    derived_true : {done : List Step} {cs : List (List Entry)} → Derives r done cs → AllByRecursion Fit cs → AllByRecursion True cs
+    derived_true nothing fits = tt
+    derived_true (more {ss} {cs} {c} p d a) fits =
+        let front : AllByRecursion Fit cs = all_front Fit cs (c ∷ []) fits in
+        let h = derived_true d front in
+        All-push True cs c h (allows_true cs front h a)
+    derived_true (settling g k d) fits = derived_true d fits
 
-  abbrev StepsWell : Result (ℕ × State) Refusal → Type 0
-  StepsWell x = (y : ℕ × State) → x ≡ Ok y → Stands y.1
+    settled_true : (done : List Step) (cs : List (List Entry)) (g : ℕ) → AllByRecursion True cs → SettledBy r done cs g → True (side.goal s g)
+    settled_true done cs g h b m =
+        contained_true (side.world s m) (clause_at cs b.0) (side.goal s g) (all_contained (clause_at cs b.0) (side.goal s g) b.3) (filed_all True cs b.0 h b.2 m)
 
-  errs_well : (e : Refusal) → StepsWell (Err e)
-  errs_well e y q = absurd (err_ok y e q)
+  abbrev Holding : State → List Step → Type 0
+  Holding st done = Stands r (side.few s) st done
 
-  ok_well : (y : ℕ × State) → Stands y.1 → StepsWell (Ok y)
-  ok_well y h z q = subst (λ (w : ℕ × State). Stands w.1) (same_ok y z q) h
+  all_true : (st : State) (done : List Step) → Holds r (side.few s) st done → lowest_open st 1 (side.goals s) ≡ None → Concluded side s
+  all_true st done h e =
+      let clauses = derived_true h.accepted h.derived h.clauses in
+      let goals : (g : ℕ) → 1 ≤ g → g ≤ side.goals s → True (side.goal s g) = (λ g low high. settled_true h.accepted done st.list g clauses (h.settled_by g low (lowest_all st (side.goals s) 1 e g low (omega arith)))) in
+      record { accepted = h.accepted; goals = goals; meaning = side.conclusion s h.accepted goals }
 
-  stepped_well : (was : State) (x : Result (ℕ × State) Refusal) → Stands was → StepsWell x → Stands (stepped_state was x)
-  stepped_well was (Ok y) h w = w y refl
-  stepped_well was (Err e) h w = h
+  slip_well : (st : State) (done : List Step) (n : ℕ) → Holding st done → SlipHolds side s (close_slip r st n)
+  slip_well st done n h m clauses =
+      cond_both (is_case st n) _ _ (λ (x : Slip). x ≡ verdict_slip (side.says s) m clauses → Concluded side s)
+      (λ own.
+      case_both (λ (x : Slip). x ≡ verdict_slip (side.says s) m clauses → Concluded side s) (lowest_open st 1 (side.goals s)) _ _
+      (λ none _.
+      case_both (λ (b : Bool). b ≡ true → Concluded side s) st.case false (λ k. eqb k n) (λ _ f. absurd (false≢true f)) (λ k e _. all_true st done (h k e) none) own)
+      (λ g _ q. absurd (unproved_never (side.says s) _ _ g m clauses q)))
+      (λ _ q. absurd (stray_never (side.says s) n m clauses q))
 
-  clause_true : (st : State) (n : ℕ) → AllByRecursion True st.list → numbered st n ≡ true → True (clause_at st.list n)
-  clause_true st n h e =
-      let a = and_parts (leb 1 n && leb n (length st.list)) (leb (length (clause_at st.list n)) 1024) e in
-      let b = and_parts (leb 1 n) (leb n (length st.list)) a.0 in
-      let low : 1 ≤ n = leb-true 1 n b.0 in
-      let high : n ≤ length st.list = leb-true n (length st.list) b.1 in
-      subst True (sym (cond-false _ _ _ (ne_eqb n 0 (λ z. omega arith)))) (All-get_or True st.list (n - 1) [] (omega arith) h)
+  answer_well : (st : State) (done : List Step) (c : Call) → Holding st done → (x : Slip) → answer r st c ≡ ends x → SlipHolds side s x
+  answer_well st done (opens n) h x e = absurd (opened_never n (opened r st n) x e)
+  answer_well st done (steps p) h x e = absurd (stepped_never (step_result r st p) x e)
+  answer_well st done (takes bytes) h x e = absurd (taken_never (take_used r st bytes) (take_result r st bytes) x e)
+  answer_well st done (closes n) h x e = λ m clauses q. slip_well st done n h m clauses (same_ends (close_slip r st n) x e ∙ q)
 
-  module _ (most width : ℕ) where
-    abbrev r : Rules
-    r = rules_with side s most width
+  answers_well : (st : State) (done : List Step) (cs : List Call) → Holding st done → AllByRecursion (λ a. (x : Slip) → a ≡ ends x → SlipHolds side s x) (answers r st cs)
+  answers_well st done [] h = tt
+  answers_well st done (c ∷ cs) h = (answer_well st done c h, answers_well (next r st c) (noted r st done c) cs (next_stands r (side.few s) st done c h))
 
-    file_well : (st : State) (c : List Entry) → Holds st.list st.settled → True c → StepsWell (file r st c)
-    file_well st c h t =
-        cond_both (has_room most width st.list c) _ _ StepsWell
-        (λ _. ok_well _ (λ k e. record { accepts = h.accepts; clauses = All-push True st.list c h.clauses t; goals = h.goals }))
-        (λ _. errs_well _)
+  start_well : (list : List (List Entry)) (cs : List Call) → Holding (run r (start list) cs) (history r (start list) [] cs)
+  start_well list cs = run_stands r (side.few s) (start list) [] cs (λ k z. absurd (none_some k z))
 
-    premise_well : (st : State) (p : Premise) → Stands st → StepsWell (premise_step r st p)
-    premise_well st p h =
-        cond_both (side.admits s p) _ _ StepsWell
-        (λ _.
-        case_both StepsWell st.case _ _ (λ _. errs_well _)
-        (λ k e.
-        judged_both StepsWell errs_well st (side.claim s p) _
-        (λ c ce.
-        judged_both StepsWell errs_well st (filed (once same_entry complement_entry c)) _
-        (λ d de.
-        let parts = filed_parts (once same_entry complement_entry c) d de in
-        file_well st d (h k e)
-        (λ m. subst (λ (x : List Entry). true_in (side.world s m) x ≡ true) parts.1 (once_true (side.world s m) c (side.truthful s (h k e).accepts p c ce m) parts.0))))))
-        (λ _. errs_well _)
+  -- after every list of calls from the making on, the slip of closing holds
+  pub sound_closing : (list : List (List Entry)) (cs : List Call) (n : ℕ) → SlipHolds side s (close_slip r (run r (start list) cs) n)
+  sound_closing list cs n = slip_well (run r (start list) cs) (history r (start list) [] cs) n (start_well list cs)
 
-    resolved_true : (o : Option Entry) (first second : List Entry) (position : ℕ) (d : List Entry) → pivot_at complement_entry first position ≡ o → resolved_by same_entry complement_entry o first second position ≡ Ok d → True first → True second → True d
-    resolved_true None first second position d pe e a b = absurd (err_ok d 16 e)
-    resolved_true (Some x) first second position d pe e a b =
-        ⊎_elim
-        (λ t.
-        let parts = filed_parts (resolvent same_entry complement_entry first second x position) d (sym (cond-true _ _ _ t) ∙ e) in
-        λ m. subst (λ (c : List Entry). true_in (side.world s m) c ≡ true) parts.1 (resolvent_true (side.world s m) first second position x (a m) (b m) pe parts.0))
-        (λ f. absurd (err_ok d 18 (sym (cond-false _ _ _ f) ∙ e)))
-        (cases_Bool (member same_entry x second))
-
-    resolve_well : (st : State) (first second position : ℕ) → Stands st → StepsWell (resolve_step r st first second position)
-    resolve_well st first second position h =
-        case_both StepsWell st.case _ _ (λ _. errs_well _)
-        (λ k e.
-        cond_both (numbered st first && numbered st second) _ _ StepsWell
-        (λ both.
-        let there = and_parts (numbered st first) (numbered st second) both in
-        judged_both StepsWell errs_well st (resolved_by same_entry complement_entry (pivot_at complement_entry (clause_at st.list first) position) (clause_at st.list first) (clause_at st.list second) position) _
-        (λ d de.
-        file_well st d (h k e)
-        (resolved_true (pivot_at complement_entry (clause_at st.list first) position) (clause_at st.list first) (clause_at st.list second) position d refl de
-        (clause_true st first (h k e).clauses there.0) (clause_true st second (h k e).clauses there.1))))
-        (λ _. errs_well _))
-
-    settle_well : (st : State) (g c : ℕ) → Stands st → StepsWell (settle_step r st g c)
-    settle_well st g c h =
-        case_both StepsWell st.case _ _ (λ _. errs_well _)
-        (λ k e.
-        cond_both (are_there r st g c) _ _ StepsWell
-        (λ there.
-        cond_both (contained same_entry (clause_at st.list c) (side.goal s g)) _ _ StepsWell
-        (λ inside.
-        cond_both (is_settled st g) _ _ StepsWell (λ _. errs_well _)
-        (λ _.
-        let a = and_parts (leb 1 g && leb g (side.goals s)) (numbered st c) there in
-        let low : 1 ≤ g = leb-true 1 g (and_parts (leb 1 g) (leb g (side.goals s)) a.0).0 in
-        let t : True (side.goal s g) = (λ m. contained_true (side.world s m) (clause_at st.list c) (side.goal s g) inside (clause_true st c (h k e).clauses a.1 m)) in
-        ok_well _
-        (λ k₁ e₁.
-        record {
-          accepts = (h k e).accepts;
-          clauses = (h k e).clauses;
-          goals =
-              λ i pos se.
-              ⊎_elim
-              (λ same. subst (λ (x : ℕ). True (side.goal s x)) (sym same) t)
-              (λ other. (h k e).goals i pos (sym (get_or-set_other st.settled (g - 1) (i - 1) true false (λ z. other (omega arith))) ∙ se))
-              (cases_eq i g);
-        })))
-        (λ _. errs_well _))
-        (λ _. errs_well _))
-
-    step_well : (st : State) (p : Step) → Stands st → StepsWell (step_result r st p)
-    step_well st (step.Premise p) h = premise_well st p h
-    step_well st (step.Resolve first second position) h = resolve_well st first second position h
-    step_well st (step.Settle g c) h = settle_well st g c h
-
-    take_well : (st : State) (bytes : List ℕ) → Stands st → StepsWell (take_result r st bytes)
-    take_well st bytes h = ok_both StepsWell errs_well (step_from bytes) _ (λ p _. step_well st p h)
-
-    opened_well : (st : State) (n : ℕ) → Stands st → Stands (opened_state st (opened r st n))
-    opened_well st n h =
-        case_both (λ (x : Result State Refusal). Stands (opened_state st x)) st.case _ _
-        (λ _.
-        ok_both (λ (x : Result State Refusal). Stands (opened_state st x)) (λ _. h) (side.opening s) _
-        (λ u e k ke.
-        record {
-          accepts = e;
-          clauses = tt;
-          goals = λ g pos se. absurd (false≢true (sym (none_settled 16384 (g - 1)) ∙ se));
-        }))
-        (λ _ _. h)
-
-    closed_well : (st : State) (n : ℕ) → Stands st → Stands (closed st n)
-    closed_well st n h = cond_both (is_case st n) _ _ Stands (λ _ k e. absurd (none_some k e)) (λ _. h)
-
-    next_well : (st : State) (c : Call) → Stands st → Stands (next r st c)
-    next_well st (opens n) h = opened_well st n h
-    next_well st (steps p) h = stepped_well st (step_result r st p) h (step_well st p h)
-    next_well st (takes bytes) h = stepped_well st (take_result r st bytes) h (take_well st bytes h)
-    next_well st (closes n) h = closed_well st n h
-
-    run_well : (st : State) (cs : List Call) → Stands st → Stands (run r st cs)
-    run_well st [] h = h
-    run_well st (c ∷ cs) h = run_well (next r st c) cs (next_well st c h)
-
-    all_true : (st : State) → Holds st.list st.settled → lowest_open st 1 (side.goals s) ≡ 0 → Concluded side s
-    all_true st h e =
-        let goals : (g : ℕ) → 1 ≤ g → g ≤ side.goals s → True (side.goal s g) = (λ g low high. h.goals g low (lowest_all st (side.goals s) 1 (omega arith) e g low (omega arith))) in
-        record { accepted = h.accepts; goals = goals; meaning = side.conclusion s h.accepts goals }
-
-    slip_well : (st : State) (n : ℕ) → Stands st → SlipHolds side s (close_slip r st n)
-    slip_well st n h m clauses =
-        cond_both (is_case st n) _ _ (λ (x : Slip). x ≡ verdict_slip (side.says s) m clauses → Concluded side s)
-        (λ own.
-        cond_both (eqb (lowest_open st 1 (side.goals s)) 0) _ _ (λ (x : Slip). x ≡ verdict_slip (side.says s) m clauses → Concluded side s)
-        (λ none _.
-        case_both (λ (b : Bool). b ≡ true → Concluded side s) st.case false (λ k. eqb k n) (λ _ f. absurd (false≢true f))
-        (λ k e _. all_true st (h k e) (eqb-true (lowest_open st 1 (side.goals s)) 0 none)) own)
-        (λ _ q. absurd (unproved_never (side.says s) _ _ _ m clauses q)))
-        (λ _ q. absurd (stray_never (side.says s) n m clauses q))
-
-    answer_well : (st : State) (c : Call) → Stands st → (x : Slip) → answer r st c ≡ ends x → SlipHolds side s x
-    answer_well st (opens n) h x e = absurd (opened_never n (opened r st n) x e)
-    answer_well st (steps p) h x e = absurd (stepped_never (step_result r st p) x e)
-    answer_well st (takes bytes) h x e = absurd (taken_never (take_used r st bytes) (take_result r st bytes) x e)
-    answer_well st (closes n) h x e = λ m clauses q. slip_well st n h m clauses (same_ends (close_slip r st n) x e ∙ q)
-
-    answers_well : (st : State) (cs : List Call) → Stands st → AllByRecursion (λ a. (x : Slip) → a ≡ ends x → SlipHolds side s x) (answers r st cs)
-    answers_well st [] h = tt
-    answers_well st (c ∷ cs) h = (answer_well st c h, answers_well (next r st c) cs (next_well st c h))
-
-    start_well : (list : List (List Entry)) (cs : List Call) → Stands (run r (start list) cs)
-    start_well list cs = run_well (start list) cs (λ k z. absurd (none_some k z))
-
-    -- after every list of calls from the making on, the slip of closing holds
-    pub sound_closing : (list : List (List Entry)) (cs : List Call) (n : ℕ) → SlipHolds side s (close_slip r (run r (start list) cs) n)
-    sound_closing list cs n = slip_well (run r (start list) cs) n (start_well list cs)
-
-    -- and so do the slips among the answers of more calls
-    pub sound_answers : (list : List (List Entry)) (before cs : List Call) → AllByRecursion (λ a. (x : Slip) → a ≡ ends x → SlipHolds side s x) (answers r (run r (start list) before) cs)
-    sound_answers list before cs = answers_well (run r (start list) before) cs (start_well list before)
-
-  -- every slip with the side's verdict says that every goal is true in every world
-  pub sound : Sound side s
-  sound most width list calls n clauses e = (sound_closing most width list calls n n clauses e).goals
+  -- and so do the slips among the answers of more calls
+  pub sound_answers : (list : List (List Entry)) (before cs : List Call) → AllByRecursion (λ a. (x : Slip) → a ≡ ends x → SlipHolds side s x) (answers r (run r (start list) before) cs)
+  sound_answers list before cs = answers_well (run r (start list) before) (history r (start list) [] before) cs (start_well list before)

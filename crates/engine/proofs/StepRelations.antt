@@ -1,8 +1,7 @@
 -- Steps and settlings at a state with an open case whose clauses fit: those that the rules allow, and no others.
 use Rattle.std.proofs.Common.{◌≡◌, ℕ, ◌+◌, ◌-◌, ◌≤◌, true, false, ◌&&◌, ltb, leb, ◌⊎◌, List, [], ◌∷◌, ◌++◌, length, set, Some, None, Ok, Err, Option, Result, sym, refl, ap, ◌∙◌, subst, inl, inr, ⊎_elim, arith}
 use Rattle.std.specs.List.{AllByRecursion}
-use Rattle.std.proofs.ByRecursion.{All-get_or}
-use Rattle.std.proofs.lemmas.Bool.{both_ways, cond_both, cond-true, cond-false, cases_Bool, and_parts, and_from, leb-true, le-leb, ltb-true, ltb-false, ne_eqb}
+use Rattle.std.proofs.lemmas.Bool.{both_ways, cond_both, cond-true, cond-false, cases_Bool, and_parts, and_from, le-leb, ltb-true, ltb-false}
 use Rattle.base.specs.Causes.{Refusal, refused}
 use Rattle.clauses.specs.declared.entry.Entry.{Entry}
 use Rattle.clauses.specs.Worlds.{same_entry, complement_entry}
@@ -11,11 +10,11 @@ use Rattle.records.specs.declared.step.Premise.{Premise}
 use Rattle.records.specs.declared.step.Step.{Step}
 use Rattle.records.specs.declared.step.Step.TheVariants as step
 use Rattle.engine.specs.Shelves.{clause_at, has_room}
-use Rattle.engine.specs.Plain.{Rules, State, on_ok, on_case, here, judged, file, numbered, open_case, premise_step, resolve_step, is_settled, are_there, settle_step, step_result}
+use Rattle.engine.specs.Plain.{Rules, State, on_ok, on_some, here, judged, file, numbered, open_case, premise_step, resolve_step, is_settled, are_there, settle_step, step_result}
 use Rattle.engine.specs.Histories.{Once, Consistent, Resolvent, Filed, Allows, premise, resolve, TooMuch, Accepted, Refused, Settles}
 use Rattle.engine.specs.Lawful.{LawfulSteps, LawfulSettlings}
-use Rattle.engine.proofs.RowLaws.{err_ok, same_ok}
-use Rattle.engine.proofs.Soundness.{case_both, judged_both, filed_parts}
+use Rattle.engine.proofs.RowLaws.{err_ok, same_ok, numbered_filed, filed_all, there_parts}
+use Rattle.engine.proofs.Ways.{case_both, judged_both, filed_parts}
 use Rattle.engine.proofs.ClauseRelations.{KeptOnce, once_first, first_kept, first_once, contained_all, all_contained, resolves, resolvent_from, resolvent_once, from_resolvent}
 
 -- a clause as a step files it
@@ -36,25 +35,16 @@ resolved_parts (Some x) first second position d k pe e =
 
 module _ (r : Rules) (s : State) (k : ℕ) (opened : s.case ≡ Some k) (fits : AllByRecursion Fit s.list) where
   open_is : {X : Type 0} (x : Result X Refusal) → open_case s x ≡ x
-  open_is {X} x = ap (λ (o : Option ℕ). on_case o (Err (here s 15)) (λ _. x)) opened
+  open_is {X} x = ap (λ (o : Option ℕ). on_some o (Err (here s 15)) (λ _. x)) opened
 
   pub fit_at : (n : ℕ) → Filed s.list n → Fit (clause_at s.list n)
-  fit_at n f =
-      let low : 1 ≤ n = f.0 in
-      let high : n ≤ length s.list = f.1 in
-      subst Fit (sym (cond-false _ _ _ (ne_eqb n 0 (λ z. omega arith)))) (All-get_or Fit s.list (n - 1) [] (omega arith) fits)
+  fit_at n f = filed_all Fit s.list n fits f
 
   numbered_at : (n : ℕ) → Filed s.list n → numbered s n ≡ true
   numbered_at n f =
       and_from (leb 1 n && leb n (length s.list)) (leb (length (clause_at s.list n)) 1024)
       (and_from (leb 1 n) (leb n (length s.list)) (le-leb 1 n f.0) (le-leb n (length s.list) f.1))
       (le-leb (length (clause_at s.list n)) 1024 (fit_at n f).short)
-
-  filed_at : (n : ℕ) → numbered s n ≡ true → Filed s.list n
-  filed_at n e =
-      let a = and_parts (leb 1 n && leb n (length s.list)) (leb (length (clause_at s.list n)) 1024) e in
-      let b = and_parts (leb 1 n) (leb n (length s.list)) a.0 in
-      (leb-true 1 n b.0, leb-true n (length s.list) b.1)
 
   -- what a step is that the rules allow
   allows_is : (p : Step) (c : List Entry) → Allows r s.list p c → step_result r s p ≡ on_ok (judged s (filed (joined c false))) (λ d. file r s d)
@@ -135,8 +125,8 @@ module _ (r : Rules) (s : State) (k : ℕ) (opened : s.case ≡ Some k) (fits : 
       let there = and_parts (numbered s first) (numbered s second) both in
       judged_both (Allowed (step.Resolve first second position)) (errs_allowed (step.Resolve first second position)) s (resolved_by same_entry complement_entry (pivot_at complement_entry (clause_at s.list first) position) (clause_at s.list first) (clause_at s.list second) position) _
       (λ d de y e.
-      let parts = resolved_parts (pivot_at complement_entry (clause_at s.list first) position) (clause_at s.list first) (clause_at s.list second) position d (fit_at first (filed_at first there.0)).consistent refl de in
-      (d, resolve first second position (filed_at first there.0) (filed_at second there.1) parts.0 parts.1)))
+      let parts = resolved_parts (pivot_at complement_entry (clause_at s.list first) position) (clause_at s.list first) (clause_at s.list second) position d (fit_at first (numbered_filed s first there.0)).consistent refl de in
+      (d, resolve first second position (numbered_filed s first there.0) (numbered_filed s second there.1) parts.0 parts.1)))
       (λ _. errs_allowed (step.Resolve first second position) _))
 
   pub record Marked (g c : ℕ) (y : ℕ × State) : Type 0 where
@@ -160,10 +150,9 @@ module _ (r : Rules) (s : State) (k : ℕ) (opened : s.case ≡ Some k) (fits : 
       (λ inside.
       cond_both (is_settled s g) _ _ (Marks g c) (λ _. errs_marks g c _)
       (λ still y e.
-      let a = and_parts (leb 1 g && leb g r.goals) (numbered s c) there in
-      let b = and_parts (leb 1 g) (leb g r.goals) a.0 in
+      let a = there_parts r s g c there in
       record {
-        settles = (leb-true 1 g b.0, leb-true g r.goals b.1, filed_at c a.1, contained_all (clause_at s.list c) (r.goal g) inside);
+        settles = (a.0, a.1, numbered_filed s c a.2, contained_all (clause_at s.list c) (r.goal g) inside);
         was_open = still;
         is = sym (same_ok (0, marked g) y e);
       }))

@@ -1,15 +1,15 @@
--- What the rules allow, and what a run's history says of its slips.
-use Rattle.std.specs.Prelude.{◌≡◌, ℕ, ◌+◌, ◌<◌, ◌≤◌, true, false, ◌⊎◌, List, [], ◌∷◌, ◌++◌, length, Some, Ok, Err, Result, ◌≢◌}
+-- What the rules allow, and what was derived and settled in a run.
+use Rattle.std.specs.Prelude.{◌≡◌, ℕ, ◌+◌, ◌<◌, ◌≤◌, true, false, ◌⊎◌, List, [], ◌∷◌, ◌++◌, length, Ok, Err, Result, ◌≢◌}
+use Rattle.std.specs.List.{Contains}
 use Rattle.base.specs.Causes.{Refusal}
 use Rattle.clauses.specs.declared.entry.Entry.{Entry}
 use Rattle.clauses.specs.Worlds.{complement_entry}
-use Rattle.records.specs.declared.slip.Slip.TheVariants as slip
 use Rattle.records.specs.declared.step.Step.{Step}
 use Rattle.records.specs.declared.step.Step.TheVariants as step
 use Rattle.records.specs.Records.{step_from}
 use Rattle.engine.specs.Shelves.{clause_at, has_room}
-use Rattle.engine.specs.Plain.{Rules, State, start, opened, step_result, take_result, close_slip, verdict_slip, is_settled}
-use Rattle.engine.specs.Runs.{Call, opens, steps, takes, closes, next, run}
+use Rattle.engine.specs.Plain.{Rules, State, opened, step_result, take_result}
+use Rattle.engine.specs.Runs.{Call, opens, steps, takes, closes, next}
 
 -- x is a literal of the clause
 pub data LiteralOf (x : Entry) : List Entry → Type 0 where
@@ -72,22 +72,9 @@ Accepted {X} o = (x : X) × (o ≡ Ok x)
 abbrev pub Refused : {X : Type 0} → Result X Refusal → Type 0
 Refused {X} o = (e : Refusal) × (o ≡ Err e)
 
-module _ (r : Rules) (s : State) where
-  -- Of steps in an open case: an allowed one is refused exactly when there is too much, and else appends its clause; an
-  -- accepted one is allowed.
-  pub record StepsLawful : Type 0 where
-    pub refused : (p : Step) (c : List Entry) → Allows r s.list p c → Refused (step_result r s p) → TooMuch r s.list c
-    pub kept_out : (p : Step) (c : List Entry) → Allows r s.list p c → TooMuch r s.list c → Refused (step_result r s p)
-    pub appends : (p : Step) (c : List Entry) (n : ℕ) (t : State) → Allows r s.list p c → step_result r s p ≡ Ok (n, t) → (t.list ≡ s.list ++ c ∷ []) × (n ≡ length s.list + 1)
-    pub allowed : (p : Step) (n : ℕ) (t : State) → 1 ≤ n → step_result r s p ≡ Ok (n, t) → (c : List Entry) × Allows r s.list p c
-
-  -- an existing goal and a filed clause all of whose literals the goal has
-  abbrev pub Settles : ℕ → ℕ → Type 0
-  Settles g k = (1 ≤ g) × (g ≤ r.goals) × Filed s.list k × ((x : Entry) → LiteralOf x (clause_at s.list k) → LiteralOf x (r.goal g))
-
-  -- Of settlings in an open case: an allowed one of an open goal is never refused.
-  abbrev pub SettlingsLawful : Type 0
-  SettlingsLawful = (g k : ℕ) → Settles g k → is_settled s g ≡ false → Accepted (step_result r s (step.Settle g k))
+-- an existing goal and a filed clause all of whose literals the goal has
+abbrev pub Settles : Rules → State → ℕ → ℕ → Type 0
+Settles r s g k = (1 ≤ g) × (g ≤ r.goals) × Filed s.list k × ((x : Entry) → LiteralOf x (clause_at s.list k) → LiteralOf x (r.goal g))
 
 -- the steps and settlings that were accepted since the last accepted opening
 abbrev pub noted_if : {X : Type 0} → Result X Refusal → List Step → List Step → List Step
@@ -114,26 +101,7 @@ pub data Derives (r : Rules) : List Step → List (List Entry) → Type 0 where
   more : {ss : List Step} {cs : List (List Entry)} {c : List Entry} (p : Step) → Derives r ss cs → Allows r cs p c → Derives r (ss ++ p ∷ []) (cs ++ c ∷ [])
   settling : {ss : List Step} {cs : List (List Entry)} (g k : ℕ) → Derives r ss cs → Derives r (ss ++ step.Settle g k ∷ []) cs
 
--- a step stands among those
-pub data Among (p : Step) : List Step → Type 0 where
-  here : {ps : List Step} → Among p (p ∷ ps)
-  there : {q : Step} {ps : List Step} → Among p ps → Among p (q ∷ ps)
-
 -- goal g was settled, in this history, by a clause that these derived ones have
 abbrev pub SettledBy : Rules → List Step → List (List Entry) → ℕ → Type 0
 SettledBy r done cs g =
-    (k : ℕ) × Among (step.Settle g k) done × Filed cs k × ((x : Entry) → LiteralOf x (clause_at cs k) → LiteralOf x (r.goal g))
-
--- Every run, from the making on, where a case is open: what the shelf holds was derived since the opening; steps and
--- settlings are lawful; and closing by the case's ticket gives the side's verdict exactly when each goal was settled
--- by a derived clause, else unproved with the lowest open goal.
-abbrev pub RunsLawful : Rules → Type 0
-RunsLawful r =
-    r.goals ≤ 16384 → (list : List (List Entry)) (calls : List Call) (n : ℕ) →
-    let s = run r (start list) calls in
-    let done = history r (start list) [] calls in
-    s.case ≡ Some n →
-    Derives r done s.list × StepsLawful r s × SettlingsLawful r s
-    × (((g : ℕ) → 1 ≤ g → g ≤ r.goals → SettledBy r done s.list g) → close_slip r s n ≡ verdict_slip r.says n (length s.list))
-    × ((k : ℕ) → close_slip r s n ≡ verdict_slip r.says n k → (g : ℕ) → 1 ≤ g → g ≤ r.goals → SettledBy r done s.list g)
-    × ((g k : ℕ) → close_slip r s n ≡ slip.Unproved n k g → (1 ≤ g) × (g ≤ r.goals) × (k ≡ length s.list) × (SettledBy r done s.list g → ⊥) × ((h : ℕ) → 1 ≤ h → h < g → SettledBy r done s.list h))
+    (k : ℕ) × Contains done (step.Settle g k) × Filed cs k × ((x : Entry) → LiteralOf x (clause_at cs k) → LiteralOf x (r.goal g))

@@ -9,19 +9,23 @@ use Rattle.engine.specs.declared.shelf.Shelf.{Ghosts as ShelfGhosts}
 use Rattle.engine.specs.declared.ticket.Ticket.{Ticket}
 use Rattle.engine.specs.Plain.{Rules, State, opened, take_result, take_used, close_slip, closed}
 
+-- a side's rules with a shelf's two numbers
+abbrev pub rules_with : {S : Type 0} → SideGhosts S → S → ℕ → ℕ → Rules
+rules_with side s most width =
+    record {
+      opening = side.opening s;
+      admits = side.admits s;
+      claim = side.claim s;
+      goals = side.goals s;
+      goal = side.goal s;
+      says = side.says s;
+      most = most;
+      width = width;
+    }
+
 module _ {S F : Type 0} (side : SideGhosts S) (shelf : ShelfGhosts F) where
   abbrev pub rules : S → F → Rules
-  rules s f =
-      record {
-        opening = side.opening s;
-        admits = side.admits s;
-        claim = side.claim s;
-        goals = side.goals s;
-        goal = side.goal s;
-        says = side.says s;
-        most = shelf.K f;
-        width = shelf.W f;
-      }
+  rules s f = rules_with side s (shelf.K f) (shelf.W f)
 
   abbrev pub rules_of : Examiner S F side shelf → Rules
   rules_of e = rules e.side e.shelf
@@ -43,10 +47,10 @@ module _ {S F : Type 0} (side : SideGhosts S) (shelf : ShelfGhosts F) where
   after s (Ok x) = x.1
   after s (Err e) = s
 
-  -- what a step answers and leaves is the plain case's
-  pub record Steps (outcome : Result (ℕ × State) Refusal) (r : Result ℕ Fault) (was is : Examiner S F side shelf) : Type 0 where
-    pub answer : answered r ≡ number_of outcome
-    pub state : state_of is ≡ after (state_of was) outcome
+  -- what a step answers and leaves is the plain case's, by its rules and state
+  pub record Steps (step : Rules → State → Result (ℕ × State) Refusal) (r : Result ℕ Fault) (was is : Examiner S F side shelf) : Type 0 where
+    pub answer : answered r ≡ number_of (step (rules_of was) (state_of was))
+    pub state : state_of is ≡ after (state_of was) (step (rules_of was) (state_of was))
     pub kept : Kept was is
 
   abbrev pub ticket_number : Result Ticket Fault → Result ℕ Refusal
@@ -75,5 +79,5 @@ module _ {S F : Type 0} (side : SideGhosts S) (shelf : ShelfGhosts F) where
 
   -- what taking a record answers and leaves is the plain case's
   pub record Takes (bytes : List ℕ) (r : Result ℕ Fault) (used : ℕ) (was is : Examiner S F side shelf) : Type 0 where
-    pub steps : Steps (take_result (rules_of was) (state_of was) bytes) r was is
+    pub steps : Steps (λ q s. take_result q s bytes) r was is
     pub used_bytes : used ≡ take_used (rules_of was) (state_of was) bytes

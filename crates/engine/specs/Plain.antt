@@ -1,5 +1,5 @@
 -- The plain case: what an examiner answers and then holds, by the side's rules and the shelf's list of clauses.
-use Rattle.std.specs.Prelude.{ℕ, zero, suc, ◌+◌, ◌-◌, Bool, true, false, cond, ◌&&◌, List, [], ◌∷◌, ◌++◌, length, replicate, Some, None, Ok, Err, Option, Result, ◌==◌, nat_eq, nat_le, slice_index_or, slice_set}
+use Rattle.std.specs.Prelude.{ℕ, zero, suc, ◌+◌, ◌-◌, Bool, true, false, cond, ◌&&◌, List, [], ◌∷◌, ◌++◌, length, replicate, Some, None, Ok, Err, Option, Result, ◌==◌, nat_le, slice_index_or, slice_set, take, count_by}
 use Rattle.base.specs.Causes.{Refusal, refused}
 use Rattle.clauses.specs.declared.entry.Entry.{Entry}
 use Rattle.clauses.specs.Worlds.{same_entry, complement_entry}
@@ -39,12 +39,12 @@ abbrev pub on_ok : {X Y : Type 0} → Result X Refusal → (X → Result Y Refus
 on_ok (Ok x) f = f x
 on_ok (Err e) f = Err e
 
-abbrev pub on_case : {X : Type 0} → Option ℕ → X → (ℕ → X) → X
-on_case None x f = x
-on_case (Some n) x f = f n
+abbrev pub on_some : {X : Type 0} → Option ℕ → X → (ℕ → X) → X
+on_some None x f = x
+on_some (Some n) x f = f n
 
 abbrev pub is_open : State → Bool
-is_open s = on_case s.case false (λ _. true)
+is_open s = on_some s.case false (λ _. true)
 
 -- a refusal at the number of clauses on the shelf
 abbrev pub here : State → ℕ → Refusal
@@ -58,7 +58,7 @@ judged s (Err cause) = Err (here s cause)
 -- open: refused where a case is open or the tables are; else the number is kept, and list and set are emptied
 abbrev pub opened : Rules → State → ℕ → Result State Refusal
 opened r s n =
-    on_case s.case (on_ok r.opening (λ _. Ok (record { case = Some n; list = []; settled = replicate 16384 false })))
+    on_some s.case (on_ok r.opening (λ _. Ok (record { case = Some n; list = []; settled = replicate 16384 false })))
     (λ _. Err (refused 11 0 4))
 
 -- a clause is filed: its number, and the list with it
@@ -73,7 +73,7 @@ abbrev pub numbered : State → ℕ → Bool
 numbered s n = nat_le 1 n && nat_le n (length s.list) && nat_le (length (clause_at s.list n)) 1024
 
 abbrev pub open_case : {X : Type 0} → State → Result X Refusal → Result X Refusal
-open_case s x = on_case s.case (Err (here s 15)) (λ _. x)
+open_case s x = on_some s.case (Err (here s 15)) (λ _. x)
 
 -- premise: of this side's kind; a literal that occurs twice is kept once
 abbrev pub premise_step : Rules → State → Premise → Result (ℕ × State) Refusal
@@ -124,15 +124,14 @@ take_used r s bytes = used_by (take_result r s bytes)
     used_by (Ok x) = length bytes - length (rest_from bytes)
     used_by (Err e) = 0
 
--- the lowest goal from number g on that is not settled, among n; 0 where all are
-abbrev pub lowest_open : State → ℕ → ℕ → ℕ
-lowest_open s g zero = 0
-lowest_open s g (suc n) = cond (is_settled s g) (lowest_open s (g + 1) n) g
+-- the lowest goal from number g on that is not settled, among n
+abbrev pub lowest_open : State → ℕ → ℕ → Option ℕ
+lowest_open s g zero = None
+lowest_open s g (suc n) = cond (is_settled s g) (lowest_open s (g + 1) n) (Some g)
 
 -- how many of the first n goals are settled
 abbrev pub settled_count : State → ℕ → ℕ
-settled_count s zero = 0
-settled_count s (suc n) = settled_count s n + cond (is_settled s (suc n)) 1 0
+settled_count s n = count_by (λ settled. settled) (take n s.settled)
 
 abbrev pub verdict_slip : Verdict → ℕ → ℕ → Slip
 verdict_slip verdict.True case clauses = slip.True case clauses
@@ -140,13 +139,11 @@ verdict_slip verdict.False case clauses = slip.False case clauses
 
 -- how the open case ends
 abbrev pub ending : Rules → State → ℕ → Slip
-ending r s n =
-    cond (lowest_open s 1 r.goals == 0) (verdict_slip r.says n (length s.list))
-    (slip.Unproved n (length s.list) (lowest_open s 1 r.goals))
+ending r s n = on_some (lowest_open s 1 r.goals) (verdict_slip r.says n (length s.list)) (λ g. slip.Unproved n (length s.list) g)
 
 -- whether a ticket with this number is the open case's
 abbrev pub is_case : State → ℕ → Bool
-is_case s n = on_case s.case false (λ k. nat_eq k n)
+is_case s n = on_some s.case false (λ k. k == n)
 
 -- close: the open case's ticket drops the number; any other is stray
 abbrev pub close_slip : Rules → State → ℕ → Slip

@@ -1,12 +1,9 @@
--- Runs: lists of calls from the making on, and what is true after every one of them.
-use Rattle.std.specs.Prelude.{◌≡◌, ℕ, ◌≤◌, true, List, [], ◌∷◌, Ok, Err, Result}
+-- Runs: lists of calls, and what each call answers and leaves.
+use Rattle.std.specs.Prelude.{ℕ, List, [], ◌∷◌, Ok, Err, Result}
 use Rattle.base.specs.Causes.{Refusal}
-use Rattle.clauses.specs.declared.entry.Entry.{Entry}
-use Rattle.clauses.specs.Worlds.{true_in}
 use Rattle.records.specs.declared.slip.Slip.{Slip}
 use Rattle.records.specs.declared.step.Step.{Step}
-use Rattle.engine.specs.declared.side.Side.{Ghosts as SideGhosts}
-use Rattle.engine.specs.Plain.{Rules, State, start, opened, step_result, take_result, take_used, close_slip, closed, verdict_slip}
+use Rattle.engine.specs.Plain.{Rules, State, opened, step_result, take_result, take_used, close_slip, closed}
 
 -- a call, as a host makes it: direct steps, records as bytes, tickets by their numbers
 pub data Call : Type 0 where
@@ -62,30 +59,3 @@ run r s (c ∷ cs) = run r (next r s c) cs
 abbrev pub answers : Rules → State → List Call → List Answer
 answers r s [] = []
 answers r s (c ∷ cs) = answer r s c ∷ answers r (next r s c) cs
-
-module _ {S : Type 0} (side : SideGhosts S) where
-  -- a side's rules with a shelf's two numbers
-  abbrev pub rules_with : S → ℕ → ℕ → Rules
-  rules_with s most width =
-      record {
-        opening = side.opening s;
-        admits = side.admits s;
-        claim = side.claim s;
-        goals = side.goals s;
-        goal = side.goal s;
-        says = side.says s;
-        most = most;
-        width = width;
-      }
-
-  -- every goal is true in every world
-  abbrev pub Proved : S → Type 0
-  Proved s = (g : ℕ) → 1 ≤ g → g ≤ side.goals s → (m : side.Model s) → true_in (side.world s m) (side.goal s g) ≡ true
-
-  -- Whatever calls were made of an examiner, on whatever shelf: where a slip has the side's verdict, every goal is true
-  -- in every world.
-  abbrev pub Sound : S → Type 0
-  Sound s =
-      (most width : ℕ) (list : List (List Entry)) (calls : List Call) (n clauses : ℕ) →
-      let r = rules_with s most width in
-      close_slip r (run r (start list) calls) n ≡ verdict_slip (side.says s) n clauses → Proved s

@@ -11,7 +11,7 @@ use Rattle.engine.specs.declared.run.Call.{Call}
 use Rattle.engine.specs.declared.shelf.Shelf.{Ghosts as ShelfGhosts}
 use Rattle.engine.specs.declared.side.Side.{Ghosts as SideGhosts}
 use Rattle.engine.specs.Plain.{start, close_slip, verdict_slip}
-use Rattle.engine.specs.Means.{rules, rules_of, state_of}
+use Rattle.engine.specs.Means.{rules_with, rules, rules_of, state_of}
 use Rattle.engine.specs.Runs as runs
 use Rattle.engine.specs.Called.{called, told_answer}
 use Rattle.engine.specs.Lawful.{RunLawful}
@@ -26,6 +26,13 @@ module _ {S : Type 0} (side : SideGhosts S) where
   -- where a slip has the side's verdict, it is concluded
   abbrev pub SlipHolds : S → Slip → Type 0
   SlipHolds s x = (case clauses : ℕ) → x ≡ verdict_slip (side.says s) case clauses → Concluded s
+
+  -- whatever calls were made of an examiner of it, on whatever shelf, the slip of closing holds
+  abbrev pub SlipsHold : S → Type 0
+  SlipsHold s =
+      (most width : ℕ) (list : List (List Entry)) (calls : List runs.Call) (n : ℕ) →
+      let r = rules_with side s most width in
+      SlipHolds s (close_slip r (runs.run r (start list) calls) n)
 
   abbrev pub AnswerHolds : S → Answer → Type 0
   AnswerHolds s a = (x : Slip) → a ≡ answer.Ended x → SlipHolds s x

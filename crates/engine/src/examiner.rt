@@ -20,5 +20,7 @@ pub struct Examiner<S: Side, F: Shelf> {
     second: Vec<Entry>,
     row: Vec<Entry>,
     ghost goals: { vec_len settled ≡ 16384 },
-    ghost rows: { (vec_len first ≡ 2048) × (vec_len second ≡ 1024) × (vec_len row ≡ 2048) },
+    ghost first_room: { vec_len first ≡ 2048 },
+    ghost second_room: { vec_len second ≡ 1024 },
+    ghost row_room: { vec_len row ≡ 2048 },
 }

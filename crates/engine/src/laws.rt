@@ -1,13 +1,14 @@
 // The theorems over runs: what a verdict means, when it is given, and which steps are refused.
-ghost use Rattle.engine.specs.Histories.{RunsLawful};
+ghost use Rattle.std.specs.Prelude.{◌≤◌};
+ghost use Rattle.engine.specs.Lawful.{AllRunsLawful};
 ghost use Rattle.engine.specs.Plain.{Rules};
-ghost use Rattle.engine.specs.Runs.{Sound};
+ghost use Rattle.engine.specs.Verdicts.{SlipsHold};
 
 use super::side::Side;
 
 // Whatever calls were made of an examiner of this side, its verdicts hold.
 pub fn verdicts_hold<S: Side>(side: &S) -> u8
-    ensures { Sound S.Side side.now }
+    ensures { SlipsHold S.Side side.now }
 {
     0
 }
@@ -16,7 +17,7 @@ pub fn verdicts_hold<S: Side>(side: &S) -> u8
 // refused exactly when the shelf is full or its clause too long, an allowed settling of an open goal never; and closing
 // gives the side's verdict exactly when each goal was settled by a derived clause.
 pub fn histories_hold() -> u8
-    ensures { (r : Rules) → RunsLawful r }
+    ensures { (r : Rules) → r.goals ≤ 16384 → AllRunsLawful r }
 {
     0
 }

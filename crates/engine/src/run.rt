@@ -14,6 +14,7 @@ use records::slip::Slip;
 use records::step::Step;
 
 // A call: a case is opened under a number; a step; a record's bytes; or the case with a number is closed.
+// Calls are data: the laws speak of every list of them.
 #[derive(Clone, Copy)]
 pub enum Call<'a> {
     Open(u32),
@@ -38,20 +39,17 @@ pub fn make_call<S: Side, F: Shelf>(examiner: &mut Examiner<S, F>, call: Call) -
     ensures sound { (list : List (List Entry)) (calls : List PlainCall) → Reached S.Side F.Shelf list calls examiner.old → AnswerHolds S.Side examiner.old.side result }
 {
     match call {
-        Call::Open(number) => match examiner.open(number) {
-            Ok(ticket) => Answer::Number(ticket.spend()),
-            Err(fault) => Answer::Refused(fault),
-        },
-        Call::Step(step) => match examiner.step(step) {
-            Ok(number) => Answer::Number(number),
-            Err(fault) => Answer::Refused(fault),
-        },
+        Call::Open(number) => {
+            let opened = examiner.open(number);
+            opened.map_or_else(Answer::Refused, |ticket| Answer::Number(ticket.spend()))
+        }
+        Call::Step(step) => {
+            let stepped = examiner.step(step);
+            stepped.map_or_else(Answer::Refused, Answer::Number)
+        }
         Call::Take(bytes) => {
             let (taken, used) = examiner.take(bytes);
-            match taken {
-                Ok(number) => Answer::Took { number, used },
-                Err(fault) => Answer::Refused(fault),
-            }
+            taken.map_or_else(Answer::Refused, |number| Answer::Took { number, used })
         }
         Call::Close(number) => Answer::Ended(examiner.close(Ticket::of(number))),
     }
@@ -69,8 +67,9 @@ pub fn run<S: Side, F: Shelf>(
     ensures sound { (list : List (List Entry)) (before : List PlainCall) → Reached S.Side F.Shelf list before examiner.old → SoundRun S.Side F.Shelf result calls.now answers.new examiner.old examiner.new list before }
 {
     let count = calls.len().min(answers.len());
-    for i in 0..count {
-        answers[i] = make_call(examiner, calls[i]);
+    // By number: behind a loop over `iter_mut` and `zip` a proof does not know what was written.
+    for (i, call) in calls[..count].iter().enumerate() {
+        answers[i] = make_call(examiner, *call);
     }
     count
 }

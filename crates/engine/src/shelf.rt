@@ -20,24 +20,29 @@ pub trait Shelf {
 
     // Empties the list.
     fn clear(&mut self)
-        ensures { (list self.new ≡ []) × ((K self.new ≡ K self.old) × (W self.new ≡ W self.old)) };
+        ensures empty { list self.new ≡ [] }
+        ensures clause_limit { K self.new ≡ K self.old }
+        ensures entry_limit { W self.new ≡ W self.old };
 
     // Appends a clause and answers its number, from 1. Refuses, changing nothing, exactly when K clauses are filed
     // or W entries would be passed.
     fn file(&mut self, clause: &[Entry]) -> Option<u32>
         ensures answer { result ≡ filed_number (K self.old) (W self.old) (list self.old) clause.now }
         ensures after { list self.new ≡ filed_list (K self.old) (W self.old) (list self.old) clause.now }
-        ensures same { (K self.new ≡ K self.old) × (W self.new ≡ W self.old) };
+        ensures clause_limit { K self.new ≡ K self.old }
+        ensures entry_limit { W self.new ≡ W self.old };
 
     // How many clauses are filed.
     fn count(&self) -> u32
         ensures { result ≡ length (list self.now) };
 
     // How many entries a clause has; 0 where there is no such clause.
+    // Total, so that hosts may ask for any number.
     fn length(&self, number: u32) -> u32
         ensures { result ≡ length (clause_at (list self.now) number) };
 
     // The entry of a clause at an index, from 0; (0, 0) where there is none.
+    // Total, so that hosts may ask for any number.
     fn entry(&self, number: u32, index: u32) -> Entry
         ensures { result ≡ entry_at (list self.now) number index };
 

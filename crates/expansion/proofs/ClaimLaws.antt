@@ -1,10 +1,8 @@
 -- The premise of a clause under a word of values: when there is one, and what it then has.
-use Rattle.std.proofs.Common.{◌≡◌, ℕ, ◌≤◌, Bool, true, false, cond, ◌&&◌, leb, List, Ok, Err, Result, sym, refl, ap, ◌∙◌}
+use Rattle.std.proofs.Common.{◌≡◌, ℕ, ◌≤◌, Bool, true, false, cond, ◌&&◌, leb, List, Ok, Err, Result, refl}
 use Rattle.std.proofs.lemmas.Bool.{and_parts, leb-true}
 use Rattle.base.specs.declared.values.ValueWord.{ValueWord}
-use Rattle.formula.specs.declared.tables.Literal.{Literal}
 use Rattle.clauses.specs.declared.entry.Entry.{Entry}
-use Rattle.spelling.proofs.ProperWords.{ok_same, no_ok}
 use Rattle.models.specs.HeldTables.{RowsOfFormula, clause_of}
 use Rattle.expansion.specs.Instances.{some_universal_true, instance, is_named, clause_instance}
 
@@ -16,13 +14,13 @@ pub record Claimed (t : RowsOfFormula) (j : ℕ) (values : ValueWord) (c : List 
   pub entries : c ≡ instance t.variables values (clause_of t j)
 
 -- the premise by its two tests: whether it is named, and whether a universal literal is true
-abbrev pub claim_by : Bool → Bool → List Entry → Result (List Entry) ℕ
+abbrev claim_by : Bool → Bool → List Entry → Result (List Entry) ℕ
 claim_by named true_there c = cond named (cond true_there (Err 17) (Ok c)) (Err 16)
 
 claim_tests : (named true_there : Bool) (c' c : List Entry) → claim_by named true_there c' ≡ Ok c → (named ≡ true) × (true_there ≡ false) × (c ≡ c')
-claim_tests true true c' c e = absurd (no_ok c 17 e)
-claim_tests true false c' c e = (refl, refl, sym (ok_same c' c e))
-claim_tests false true_there c' c e = absurd (no_ok c 16 e)
+claim_tests true true c' c e = cc
+claim_tests true false c' c e = (refl, refl, cc)
+claim_tests false true_there c' c e = cc
 
 pub claimed : (t : RowsOfFormula) (j : ℕ) (values : ValueWord) (c : List Entry) → clause_instance t j values ≡ Ok c → Claimed t j values c
 claimed t j values c e =
@@ -35,10 +33,3 @@ claimed t j values c e =
       no_universal = tests.1;
       entries = tests.2;
     }
-
--- the premise, from what the tests answer of the clause's literals
-pub claim_is : (t : RowsOfFormula) (j : ℕ) (values : ValueWord) (ls : List Literal) {named true_there : Bool} → named ≡ is_named t j values → true_there ≡ some_universal_true t.variables values ls → ls ≡ clause_of t j → clause_instance t j values ≡ claim_by named true_there (instance t.variables values ls)
-claim_is t j values ls {named} {true_there} n u e =
-    sym (ap (λ (b : Bool). claim_by b true_there (instance t.variables values ls)) n
-    ∙ ap (λ (b : Bool). claim_by (is_named t j values) b (instance t.variables values ls)) u
-    ∙ ap (λ (c : List Literal). claim_by (is_named t j values) (some_universal_true t.variables values c) (instance t.variables values c)) e)

@@ -1,6 +1,6 @@
 -- A clause under a word of values is true in every model of the formula that the tables hold.
-use Rattle.std.proofs.Common.{◌≡◌, ℕ, ◌-◌, ◌/◌, ◌%◌, ◌≤◌, Bool, true, false, ◌&&◌, eqb, ◌⊎◌, List, [], ◌∷◌, length, Ok, sym, refl, ap, ◌∙◌, subst, inl, inr, ⊎_elim, arith}
-use Rattle.std.specs.List.{AllByRecursion}
+use Rattle.std.proofs.Common.{◌≡◌, ℕ, ◌-◌, ◌/◌, ◌%◌, ◌≤◌, Bool, true, false, ◌&&◌, eqb, ◌⊎◌, List, [], ◌∷◌, length, Option, Some, None, cond, Ok, sym, refl, ap, ◌∙◌, subst, inl, inr, ⊎_elim, arith}
+use Rattle.std.specs.List.{AllByRecursion, cons_option}
 use Rattle.std.proofs.ByRecursion.{All-get_or}
 use Rattle.std.proofs.lemmas.Bool.{both_ways, eq-eqb, ne_eqb, or_cases, or_left, or_parts, or_right}
 use Rattle.base.specs.declared.values.ValueWord.{ValueWord}
@@ -10,7 +10,7 @@ use Rattle.formula.specs.declared.tables.Kind.{Kind}
 use Rattle.formula.specs.declared.tables.Kind.TheVariants as kind
 use Rattle.formula.specs.declared.tables.Literal.{Literal}
 use Rattle.formula.specs.declared.tables.Variable.{Variable}
-use Rattle.formula.specs.Groups.{is_universal, is_undeclared}
+use Rattle.formula.specs.Groups.{is_universal, is_existential, is_undeclared}
 use Rattle.clauses.specs.declared.entry.Entry.{Entry}
 use Rattle.clauses.specs.Worlds.{true_in}
 use Rattle.records.specs.declared.step.Premise.{Premise}
@@ -18,25 +18,28 @@ use Rattle.records.specs.declared.step.Premise.TheVariants as premise
 use Rattle.spelling.specs.Dqbf.{Declaration, Dqbf, Lawful, member, record_of}
 use Rattle.spelling.proofs.PrefixLaws.{variables_of, place_universal}
 use Rattle.spelling.proofs.ProperWords.{no_ok}
-use Rattle.audit.proofs.FormulaOwners.{is_existential}
 use Rattle.audit.proofs.FormulaPlaces.{existential_place}
 use Rattle.models.specs.CircuitValues.{existential_at}
 use Rattle.models.specs.HeldTables.{RowsOfFormula, record_at, clause_of}
 use Rattle.models.specs.Models.{Assignment, Functions, signed, universal_at, literal_value, clause_value, Agree, DependsOnAllowed, IsModel}
 use Rattle.models.proofs.HeldLaws.{clause_held, clause_short, literals_declared, record_declared, kind_declared}
 use Rattle.models.proofs.ValueLaws.{value_universal, value_existential, existential_declared}
-use Rattle.expansion.specs.Instances.{existential_code, annotated, true_universal_by, true_universal, some_universal_true, instance_by, instance, falsity_claim}
+use Rattle.expansion.specs.Instances.{annotated, true_universal, some_universal_true, instance, falsity_claim}
 use Rattle.expansion.specs.ModelWorlds.{Model, assignment_by, function_value, model_world, HoldsInModels}
 use Rattle.expansion.proofs.ClaimLaws.{claimed}
 
--- the code of a lawful position says the position and the sign
-code_half : (k : ℕ) (negative : Bool) → k ≤ 4096 → existential_code k negative / 2 ≡ k
-code_half k true h = omega arith
-code_half k false h = omega arith
+-- what the literal of a variable gives, by the variable's kind
+abbrev annotated_by : Kind → Variable → Bool → ValueWord → Option Entry
+annotated_by k x negative values = cond (is_existential k) (Some (annotated x negative values)) None
 
-code_parity : (k : ℕ) (negative : Bool) → eqb (existential_code k negative % 2) 1 ≡ negative
-code_parity k true = eq-eqb (existential_code k true % 2) 1 (omega arith)
-code_parity k false = ne_eqb (existential_code k false % 2) 1 (λ e. omega arith)
+-- the code of a lawful position says the position and the sign
+code_half : (x : Variable) (negative : Bool) (values : ValueWord) → x.position ≤ 4096 → (annotated x negative values).code / 2 ≡ x.position
+code_half x true values h = omega arith
+code_half x false values h = omega arith
+
+code_parity : (x : Variable) (negative : Bool) (values : ValueWord) → eqb ((annotated x negative values).code % 2) 1 ≡ negative
+code_parity x true values = eq-eqb ((annotated x true values).code % 2) 1 (omega arith)
+code_parity x false values = ne_eqb ((annotated x false values).code % 2) 1 (λ e. omega arith)
 
 module _ {f : Dqbf} (lawful : Lawful f) (values : ValueWord) where
   -- the values of a set of dependencies alone agree with all values on that set
@@ -57,8 +60,8 @@ module _ {f : Dqbf} (lawful : Lawful f) (values : ValueWord) where
         let few : x.position ≤ 4096 = omega (arith, lawful.few_existentials) in
         let τ : Assignment = assignment_by f.prefix (common_word values x.dependencies) in
         let same : F v τ ≡ F v (assignment_by f.prefix values) = existential_declared (DependsOnAllowed f.prefix F) f.prefix v is model.allowed τ (assignment_by f.prefix values) (agree_common x.dependencies) in
-        ap (λ (k : ℕ). signed (eqb (existential_code x.position negative % 2) 1) (F (existential_at f.prefix k) τ)) (code_half x.position negative few)
-        ∙ ap (λ (b : Bool). signed b (F (existential_at f.prefix x.position) τ)) (code_parity x.position negative)
+        ap (λ (k : ℕ). signed (eqb ((annotated x negative values).code % 2) 1) (F (existential_at f.prefix k) τ)) (code_half x negative values few)
+        ∙ ap (λ (b : Bool). signed b (F (existential_at f.prefix x.position) τ)) (code_parity x negative values)
         ∙ ap (λ (y : ℕ). signed negative (F y τ)) stands
         ∙ ap (signed negative) same
 
@@ -79,7 +82,7 @@ module _ (t : RowsOfFormula) (m : Model t) (values : ValueWord) where
       ∙ sym (annotated_value m.held.lawful values m.is_model v negative is)
 
   -- one literal more: if it is true it is no universal, and then its entry is true
-  one_more : (l : Literal) (k : Kind) (rest : List Entry) → k ≡ (record_of prefix l.variable).kind → is_undeclared (record_of prefix l.variable).kind ≡ false → true_universal_by k (record_of prefix l.variable) l.negative values ≡ false → (literal_value m.formula m.functions σ l ≡ true) ⊎ (true_in (model_world t m) rest ≡ true) → true_in (model_world t m) (instance_by k (record_of prefix l.variable) l.negative values rest) ≡ true
+  one_more : (l : Literal) (k : Kind) (rest : List Entry) → k ≡ (record_of prefix l.variable).kind → is_undeclared (record_of prefix l.variable).kind ≡ false → (is_universal k && signed l.negative (has_bit values (record_of prefix l.variable).position)) ≡ false → (literal_value m.formula m.functions σ l ≡ true) ⊎ (true_in (model_world t m) rest ≡ true) → true_in (model_world t m) (cons_option (annotated_by k (record_of prefix l.variable) l.negative values) rest) ≡ true
   one_more l kind.Undeclared rest e declared untrue h = absurd (both_ways _ declared (sym (ap is_undeclared e)))
   one_more l kind.Universal rest e declared untrue (inl h) =
       absurd (both_ways _ (universal_signed l.variable l.negative (sym (ap is_universal e)) ∙ untrue) h)
@@ -97,9 +100,9 @@ module _ (t : RowsOfFormula) (m : Model t) (values : ValueWord) where
       let rest = instance t.variables values ls in
       let parts = or_parts (true_universal t.variables values l) (some_universal_true t.variables values ls) n in
       let same : record_at t.variables l.variable ≡ record_of prefix l.variable = record_declared m.held l.variable d in
-      let untrue = sym (ap (λ (x : Variable). true_universal_by x.kind x l.negative values) same) ∙ parts.0 in
+      let untrue = sym (ap (λ (x : Variable). is_universal x.kind && signed l.negative (has_bit values x.position)) same) ∙ parts.0 in
       let either : (literal_value m.formula m.functions σ l ≡ true) ⊎ (true_in w rest ≡ true) = ⊎_elim (λ a. inl a) (λ b. inr (instance_holds ls declared b parts.1)) (or_cases _ _ h) in
-      ap (λ (x : Variable). true_in w (instance_by x.kind x l.negative values rest)) same
+      ap (λ (x : Variable). true_in w (cons_option (annotated_by x.kind x l.negative values) rest)) same
       ∙ one_more l (record_of prefix l.variable).kind rest refl (kind_declared m.held l.variable d) untrue either
 
 -- a premise of clause j is true in every model
@@ -125,7 +128,7 @@ instance_short vs values (l ∷ ls) =
     let x = record_at vs l.variable in
     let rest = instance vs values ls in
     let short = instance_short vs values ls in
-    elim x.kind as (λ k. length (instance_by k x l.negative values rest) ≤ length (l ∷ ls))
+    elim x.kind as (λ k. length (cons_option (annotated_by k x l.negative values) rest) ≤ length (l ∷ ls))
     [ kind.Undeclared ↦ omega arith | kind.Universal ↦ omega arith | kind.Existential ↦ omega arith ]
 
 -- so no claim has more than 1,024

@@ -1,4 +1,3 @@
-pub mod ClauseLoops
 pub mod RowWrites
 pub mod ClaimLaws
 pub mod InstanceLaws

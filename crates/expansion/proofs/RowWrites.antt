@@ -1,30 +1,34 @@
--- A row into which a clause is written from the front, a literal at a time.
-use Rattle.std.proofs.Common.{◌≡◌, ℕ, ◌+◌, ◌<◌, ◌≤◌, List, [], ◌∷◌, ◌++◌, length, take, drop, set, sym, ap, ◌∙◌, arith}
-use Rattle.std.proofs.lemmas.List.{append_assoc, append-nil, length-set, length-take-le, take-append-drop, take_more_set}
+-- A row into which items are written from the front, by their numbers.
+use Rattle.std.proofs.Common.{◌≡◌, ℕ, ◌+◌, ◌<◌, List, [], ◌∷◌, ◌++◌, map, length, get_or, set, refl, sym, ap, ◌∙◌, zero-add, arith}
+use Rattle.std.specs.List.{enumerate_from}
+use Rattle.std.proofs.lemmas.List.{length-map, map-append, map-id}
+use Rattle.std.proofs.lemmas.List.FromFn.{get_or-enumerate_from, length-enumerate_from}
 use Rattle.clauses.specs.Clauses.{over}
-use Rattle.clauses.proofs.RowLaws.{drop_more_set}
-
--- n literals of the clause stand at the row's front, these are left, and behind them the row is as it was
-pub record Written {X : Type 0} (row was left all : List X) (n : ℕ) : Type 0 where
-  pub built : take n row ++ left ≡ all
-  pub behind : drop n row ≡ drop n was
-  pub room : n + length left ≤ length row
+use Rattle.clauses.proofs.RowLaws.{over_more}
 
 module _ {X : Type 0} where
-  -- one literal more
-  pub written_more : (row was rest all : List X) (x : X) (n : ℕ) → Written row was (x ∷ rest) all n → Written (set row n x) was rest all (n + 1)
-  written_more row was rest all x n w =
-      let inside : n < length row = omega (arith, w.room) in
-      record {
-        built = ap (λ (l : List X). l ++ rest) (take_more_set row n x inside) ∙ append_assoc (take n row) (x ∷ []) rest ∙ w.built;
-        behind = drop_more_set row was n x w.behind;
-        room = omega (arith, length-set row n x, w.room);
-      }
+  -- items without their numbers
+  abbrev pub items : List (ℕ × X) → List X
+  items = map (λ p. p.1)
+
+  items-enumerate : (n : ℕ) (xs : List X) → items (enumerate_from n xs) ≡ xs
+  items-enumerate n [] = refl
+  items-enumerate n (x ∷ xs) = ap (λ ys. x ∷ ys) (items-enumerate (n + 1) xs)
+
+  -- the next item's number is how many stand before it
+  pub next_is : (all : List X) (ps : List (ℕ × X)) (p : ℕ × X) → (length ps < length (enumerate_from 0 all)) × (p ≡ get_or (enumerate_from 0 all) (length ps) p) → (length ps < length all) × (p.0 ≡ length ps)
+  next_is all ps p h =
+      let inside : length ps < length all = omega (arith, length-enumerate_from 0 all) in
+      (inside, ap (λ q. q.0) (h.1 ∙ get_or-enumerate_from 0 all (length ps) p inside) ∙ zero-add (length ps))
+
+  -- one item more
+  pub written_more : (row was : List X) (ps : List (ℕ × X)) (p : ℕ × X) → p.0 ≡ length ps → length ps < length was → row ≡ over (items ps) was → set row p.0 p.1 ≡ over (items (ps ++ p ∷ [])) was
+  written_more row was ps p e inside w =
+      ap (λ r. set r p.0 p.1) w ∙ over_more (items ps) was p.0 p.1 (length-map ps (λ p. p.1) ∙ sym e) (omega arith)
+      ∙ ap (λ xs. over xs was) (sym (map-append (λ p. p.1) ps (p ∷ [])))
 
   -- all of them
-  pub written_all : (row was all : List X) (n : ℕ) → Written row was [] all n → row ≡ over all was
-  written_all row was all n w =
-      let front : take n row ≡ all = sym (append-nil (take n row)) ∙ w.built in
-      let size : n ≡ length all = omega (arith, w.room, length-take-le n row (omega (arith, w.room)), ap length front) in
-      sym (take-append-drop n row) ∙ ap (λ (l : List X). l ++ drop n row) front
-      ∙ ap (λ (l : List X). all ++ l) (w.behind ∙ ap (λ (k : ℕ). drop k was) size)
+  pub written_all : (row was all : List X) (ps : List (ℕ × X)) → map (λ p. (p.0, p.1)) ps ≡ enumerate_from 0 all → row ≡ over (items ps) was → row ≡ over all was
+  written_all row was all ps e w =
+      let same : items ps ≡ all = ap items (sym (map-id ps) ∙ e) ∙ items-enumerate 0 all in
+      w ∙ ap (λ xs. over xs was) same

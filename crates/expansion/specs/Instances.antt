@@ -1,49 +1,40 @@
 -- The falsity side: the clauses of a formula under a word of values, by expansion of the universals.
-use Rattle.std.specs.Prelude.{ℕ, ◌+◌, ◌*◌, ◌%◌, Bool, true, false, cond, ◌&&◌, ◌||◌, List, [], ◌∷◌, Ok, Err, Result, nat_le}
+use Rattle.std.specs.Prelude.{ℕ, ◌+◌, ◌*◌, Bool, true, false, cond, ◌&&◌, List, Some, None, Ok, Err, Option, Result, filter_map, nat_le}
+use Rattle.std.specs.List.{list_any}
 use Rattle.base.specs.declared.values.ValueWord.{ValueWord}
 use Rattle.base.specs.Causes.{Refusal, refused}
 use Rattle.base.specs.Words.{has_bit, first_word, common_word, within_word}
-use Rattle.formula.specs.declared.tables.Kind.{Kind}
-use Rattle.formula.specs.declared.tables.Kind.TheVariants as kind
 use Rattle.formula.specs.declared.tables.Literal.{Literal}
 use Rattle.formula.specs.declared.tables.Variable.{Variable}
+use Rattle.formula.specs.Groups.{is_universal, is_existential}
 use Rattle.clauses.specs.declared.entry.Entry.{Entry}
+use Rattle.clauses.specs.Worlds.{entry_of}
 use Rattle.records.specs.declared.step.Premise.{Premise}
 use Rattle.records.specs.declared.step.Premise.TheVariants as premise
 use Rattle.models.specs.HeldTables.{RowsOfFormula, lawful_formula, record_at, clause_of}
 use Rattle.models.specs.Models.{signed}
 
--- the code of the k-th existential or its negation: 2k or 2k + 1 (codes have four bytes, which no lawful formula passes)
-abbrev pub existential_code : ℕ → Bool → ℕ
-existential_code k negative = (2 * k + cond negative 1 0) % 4294967296
-
--- an existential literal under a word of values: its annotation has the values of the existential's dependencies alone
+-- The k-th existential under a word of values, or its negation: code 2k or 2k + 1 (codes have four bytes, which no lawful
+-- formula passes), and its annotation has the values of the existential's dependencies alone.
 abbrev pub annotated : Variable → Bool → ValueWord → Entry
-annotated x negative values = record { code = existential_code x.position negative; values = common_word values x.dependencies }
+annotated x negative values = entry_of (2 * x.position + cond negative 1 0) (common_word values x.dependencies)
 
--- whether a literal, by its variable's record, is universal and true under a word of values
-abbrev pub true_universal_by : Kind → Variable → Bool → ValueWord → Bool
-true_universal_by kind.Undeclared x negative values = false
-true_universal_by kind.Universal x negative values = signed negative (has_bit values x.position)
-true_universal_by kind.Existential x negative values = false
-
+-- whether a literal is universal and true under a word of values
 abbrev pub true_universal : List Variable → ValueWord → Literal → Bool
-true_universal vs values l = true_universal_by (record_at vs l.variable).kind (record_at vs l.variable) l.negative values
+true_universal vs values l =
+    is_universal (record_at vs l.variable).kind && signed l.negative (has_bit values (record_at vs l.variable).position)
 
 abbrev pub some_universal_true : List Variable → ValueWord → List Literal → Bool
-some_universal_true vs values [] = false
-some_universal_true vs values (l ∷ ls) = true_universal vs values l || some_universal_true vs values ls
+some_universal_true vs values ls = list_any (true_universal vs values) ls
+
+-- an existential literal with its annotation; none for any other literal
+abbrev pub annotated_literal : List Variable → ValueWord → Literal → Option Entry
+annotated_literal vs values l =
+    cond (is_existential (record_at vs l.variable).kind) (Some (annotated (record_at vs l.variable) l.negative values)) None
 
 -- the existential literals of a clause in their order, annotated
-abbrev pub instance_by : Kind → Variable → Bool → ValueWord → List Entry → List Entry
-instance_by kind.Undeclared x negative values rest = rest
-instance_by kind.Universal x negative values rest = rest
-instance_by kind.Existential x negative values rest = annotated x negative values ∷ rest
-
 abbrev pub instance : List Variable → ValueWord → List Literal → List Entry
-instance vs values [] = []
-instance vs values (l ∷ ls) =
-    instance_by (record_at vs l.variable).kind (record_at vs l.variable) l.negative values (instance vs values ls)
+instance vs values ls = filter_map (annotated_literal vs values) ls
 
 -- there is such a clause, and the word has no value above the universals
 abbrev pub is_named : RowsOfFormula → ℕ → ValueWord → Bool

@@ -4,89 +4,82 @@
 ghost use Rattle.std.specs.Prelude.{◌≡◌, ◌≤◌, length};
 ghost use Rattle.clauses.specs.Clauses.{over};
 ghost use Rattle.clauses.specs.Laid.{Laid};
-ghost use Rattle.expansion.specs.Instances.{annotated, true_universal, some_universal_true, instance, is_named, clause_instance};
+ghost use Rattle.expansion.specs.Instances.{annotated_literal, true_universal, some_universal_true, instance, is_named, clause_instance};
 ghost use Rattle.expansion.specs.ModelWorlds.{HoldsInModels};
 ghost use Rattle.models.specs.HeldTables.{formula_rows};
 
 use base::faults::Cause;
 use base::values::ValueWord;
 use clauses::entry::Entry;
-use formula::tables::{Kind, Literal, Variable};
+use formula::tables::{Kind, Literal};
 use models::tables::FormulaTables;
 
-// Whether there is such a clause, and the word has no value above the universals.
-fn is_named(formula: &FormulaTables, clause: u32, values: ValueWord) -> bool
-    ensures { result ≡ is_named (formula_rows formula.now) clause values }
-{
-    clause >= 1
-        && clause <= formula.head.clauses
-        && values.is_within(ValueWord::first(formula.head.universals))
-}
-
-// Whether a literal is universal and true under a word of values.
-fn is_true_universal(formula: &FormulaTables, literal: Literal, values: ValueWord) -> bool
-    ensures { result ≡ true_universal formula.now.variables.now values literal }
-{
-    let variable = formula.variable(literal.variable);
-    match variable.kind {
-        Kind::Undeclared => false,
-        Kind::Universal => literal.negative != values.has(variable.position),
-        Kind::Existential => false,
-    }
-}
-
-// Whether some universal literal of a clause is true under a word of values.
-fn has_true_universal(formula: &FormulaTables, clause: &[Literal], values: ValueWord) -> bool
-    ensures { result ≡ some_universal_true formula.now.variables.now values clause.now }
-{
-    for literal in clause {
-        if is_true_universal(formula, *literal, values) {
-            return true;
-        }
-    }
-    false
-}
-
-// How many existential literals a clause has.
-fn count_existentials(formula: &FormulaTables, clause: &[Literal]) -> usize
-    ensures { (values : ValueWord) → result ≡ length (instance formula.now.variables.now values clause.now) }
-{
-    let mut count = 0;
-    for literal in clause {
-        if let Kind::Existential = formula.variable(literal.variable).kind {
-            count += 1;
-        }
-    }
-    count
-}
-
-// An existential literal under a word of values: its code, and the values of its existential's dependencies.
-fn annotate(variable: Variable, negative: bool, values: ValueWord) -> Entry
-    ensures { result ≡ annotated variable negative values }
-{
-    let sign = if negative { 1 } else { 0 };
-    Entry {
-        code: ((2 * variable.position as u64 + sign) % 4_294_967_296) as u32,
-        values: values.intersection(variable.dependencies),
-    }
-}
-
-// Writes the existential literals of a clause, annotated, at the front of a row.
-fn write_existentials(
-    formula: &FormulaTables,
-    clause: &[Literal],
+// A formula whose universals have the values of a word.
+#[derive(Clone, Copy, Drop)]
+struct Expansion<'a> {
+    formula: &'a FormulaTables<'a>,
     values: ValueWord,
-    row: &mut [Entry],
-)
-    requires { length (instance formula.now.variables.now values clause.now) ≤ length row.old }
-    ensures { row.new ≡ over (instance formula.now.variables.now values clause.now) row.old }
-{
-    let mut count = 0;
-    for literal in clause {
-        let variable = formula.variable(literal.variable);
-        if let Kind::Existential = variable.kind {
-            row[count] = annotate(variable, literal.negative, values);
-            count += 1;
+}
+
+impl<'a> Expansion<'a> {
+    // Whether there is such a clause, and the word has no value above the universals.
+    fn is_named(&self, clause: u32) -> bool
+        ensures { result ≡ is_named (formula_rows self.now.formula.now) clause self.now.values }
+    {
+        let head = self.formula.head;
+        (1..=head.clauses).contains(&clause)
+            && self.values.is_within(ValueWord::first(head.universals))
+    }
+
+    // Whether a literal is universal and true.
+    fn is_true_universal(&self, literal: Literal) -> bool
+        ensures { result ≡ true_universal self.now.formula.now.variables.now self.now.values literal }
+    {
+        let variable = self.formula.variable(literal.variable);
+        variable.kind == Kind::Universal && literal.negative != self.values.has(variable.position)
+    }
+
+    // Whether some universal literal of a clause is true.
+    fn has_true_universal(&self, clause: &[Literal]) -> bool
+        ensures { result ≡ some_universal_true self.now.formula.now.variables.now self.now.values clause.now }
+    {
+        clause
+            .iter()
+            .any(|literal| self.is_true_universal(*literal))
+    }
+
+    // An existential literal with the values of its dependencies; none for any other literal.
+    fn annotate(&self, literal: Literal) -> Option<Entry>
+        ensures { result ≡ annotated_literal self.now.formula.now.variables.now self.now.values literal }
+    {
+        let variable = self.formula.variable(literal.variable);
+        if variable.kind != Kind::Existential {
+            return None;
+        }
+        let code = 2 * u64::from(variable.position) + u64::from(literal.negative);
+        let values = self.values.intersection(variable.dependencies);
+        Some(Entry::of(code, values))
+    }
+
+    // How many existential literals a clause has.
+    fn count_existentials(&self, clause: &[Literal]) -> usize
+        ensures { result ≡ length (instance self.now.formula.now.variables.now self.now.values clause.now) }
+    {
+        clause
+            .iter()
+            .filter_map(|literal| self.annotate(*literal))
+            .count()
+    }
+
+    // Writes the existential literals of a clause, annotated, at the front of a row.
+    fn write_existentials(&self, clause: &[Literal], row: &mut [Entry])
+        requires { length (instance self.now.formula.now.variables.now self.now.values clause.now) ≤ length row.old }
+        ensures { row.new ≡ over (instance self.now.formula.now.variables.now self.now.values clause.now) row.old }
+    {
+        let entries = clause.iter().filter_map(|literal| self.annotate(*literal));
+        // By numbers: what is written through a row's `iter_mut` in a `zip` is not known behind the loop.
+        for (i, entry) in entries.enumerate() {
+            row[i] = entry;
         }
     }
 }
@@ -103,17 +96,18 @@ pub fn lay_instance(
     ensures laid { Laid (clause_instance (formula_rows formula.now) clause values) result row.old row.new }
     ensures holds { HoldsInModels (formula_rows formula.now) clause values }
 {
-    if !is_named(formula, clause, values) {
+    let expansion = Expansion { formula, values };
+    if !expansion.is_named(clause) {
         return Err(Cause::NotThere);
     }
     let literals = formula.clause(clause);
-    if has_true_universal(formula, literals, values) {
+    if expansion.has_true_universal(literals) {
         return Err(Cause::UniversalTrue);
     }
-    let count = count_existentials(formula, literals);
+    let count = expansion.count_existentials(literals);
     if count > row.len() {
         return Err(Cause::TableShort);
     }
-    write_existentials(formula, literals, values, row);
+    expansion.write_existentials(literals, row);
     Ok(count)
 }

@@ -1,2 +1,4 @@
 pub mod ClauseLaws
 pub mod GroupLaws
+pub mod FrontLaws
+pub mod HeaderLaws

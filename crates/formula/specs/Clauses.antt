@@ -1,7 +1,6 @@
 -- The clauses, by recursion on the words that are left.
-use Rattle.std.specs.Prelude.{◌≡◌, ℕ, zero, suc, ◌-◌, ◌≤◌, Bool, false, cond, ◌||◌, List, [], ◌∷◌, ◌++◌, length, take, Ok, Err, Result, ◌==◌, nat_le, nat_lt, slice_index}
-use Rattle.base.specs.declared.faults.Fault.{Fault}
-use Rattle.base.specs.Causes.{Refusal, told, refused}
+use Rattle.std.specs.Prelude.{ℕ, zero, suc, ◌-◌, Bool, false, cond, ◌||◌, List, [], ◌∷◌, ◌++◌, length, Ok, Err, Result, ◌==◌, nat_le, nat_lt}
+use Rattle.base.specs.Causes.{Refusal, refused}
 use Rattle.words.specs.declared.forms.Numeral.{Numeral}
 use Rattle.words.specs.Words.{Spelt, start_of, end_of}
 use Rattle.words.specs.Due.{Got, and_then, literal_in, text_ends}
@@ -55,15 +54,3 @@ clauses_from known vs zero done ws q room size = Ok (done, ws, q)
 clauses_from known vs (suc n) done ws q room size =
     and_then (clause_from known vs [] ws (room - length done.literals) size)
     (λ c. clauses_from known vs n (add_clause done c.0) c.1 c.2 room size)
-
-abbrev pub told_clause : Result ℕ Fault → List Literal → List Spelt → ℕ → Got (List Literal)
-told_clause (Ok n) ls ws p = Ok (take n ls, ws, p)
-told_clause (Err e) ls ws p = Err (told e)
-
-abbrev pub told_clauses : Result ℕ Fault → ℕ → List Clause → List Literal → List Spelt → ℕ → Got Clauses
-told_clauses (Ok n) count cs ls ws p = Ok (record { spans = take count cs; literals = take n ls }, ws, p)
-told_clauses (Err e) count cs ls ws p = Err (told e)
-
--- the variables of a clause's literals are those whose mark is the clause's stamp, and no mark is above it
-abbrev pub Marks : List Literal → List ℕ → ℕ → Type 0
-Marks done marks stamp = (v : ℕ) → ((slice_index marks v == stamp) ≡ names v done) × (slice_index marks v ≤ stamp)

@@ -4,7 +4,7 @@ use Rattle.base.specs.declared.faults.Fault.{Fault}
 use Rattle.base.specs.declared.values.ValueWord.{ValueWord}
 use Rattle.base.specs.Causes.{Refusal, told, refused}
 use Rattle.base.specs.Words.{empty_word, first_word, single_word, union_word, has_bit}
-use Rattle.words.specs.Words.{Spelt, letter, number, other, start_of, end_of}
+use Rattle.words.specs.Words.{Spelt, letter, number, other, start_of, end_of, words_from}
 use Rattle.words.specs.Due.{Got, and_then, number_in, text_ends, Further}
 use Rattle.formula.specs.declared.tables.Kind.{Kind}
 use Rattle.formula.specs.declared.tables.Kind.TheVariants as kind
@@ -23,6 +23,10 @@ no_variable = record { kind = kind.Undeclared; position = 0; dependencies = reco
 abbrev pub variable_at : List Variable → ℕ → Variable
 variable_at vs v = slice_index_or vs (v - 1) no_variable
 
+-- the record of v, where v is one of these variables
+abbrev pub variable_in : List Variable → ℕ → Option Variable
+variable_in vs v = cond (v == 0 || nat_lt (length vs) v) None (Some (variable_at vs v))
+
 abbrev pub is_undeclared : Kind → Bool
 is_undeclared kind.Undeclared = true
 is_undeclared kind.Universal = false
@@ -33,6 +37,11 @@ is_universal kind.Undeclared = false
 is_universal kind.Universal = true
 is_universal kind.Existential = false
 
+abbrev pub is_existential : Kind → Bool
+is_existential kind.Undeclared = false
+is_existential kind.Universal = false
+is_existential kind.Existential = true
+
 -- What is declared so far: how many universals and existentials, and the variables' records.
 pub record Declared : Type 0 where
   pub universals : ℕ
@@ -41,14 +50,6 @@ pub record Declared : Type 0 where
 
 abbrev pub declared : Counts → List Variable → Declared
 declared c vs = record { universals = c.universals; existentials = c.existentials; table = vs }
-
-abbrev pub told_declared : Result Counts Fault → List Variable → Result Declared Refusal
-told_declared (Ok c) vs = Ok (declared c vs)
-told_declared (Err e) vs = Err (told e)
-
-abbrev pub went : {X Y : Type 0} → Result X Fault → Y → Result Y Refusal
-went (Ok x) y = Ok y
-went (Err e) y = Err (told e)
 
 -- variable v, at place p, is one of the formula's and is not declared yet
 abbrev pub fresh : ℕ → List Variable → ℕ → ℕ → Result (Unit {0}) Refusal
@@ -84,6 +85,11 @@ add_dependency known d v u p =
 abbrev pub add_listed : Quantifier → ℕ → Declared → ℕ → ℕ → Result Declared Refusal
 add_listed quantifier.Universal known d v p = add_universal known d v p
 add_listed quantifier.Existential known d v p = add_existential known d (first_word d.universals) v p
+
+-- v is declared in a group; one with dependencies of its own has none yet
+abbrev pub add_in : Group → ℕ → Declared → ℕ → ℕ → Result Declared Refusal
+add_in (group.Listed q) known d v p = add_listed q known d v p
+add_in group.Dependent known d v p = add_existential known d empty_word v p
 
 -- the group that a word of letters begins
 abbrev pub group_in : List ℕ → Option Group
@@ -133,6 +139,10 @@ groups_from known (dependencies v) d (w ∷ ws) q size =
     (λ u. cond (u == 0) (groups_from known outside d ws (end_of w) size)
     (and_then (add_dependency known d v u (start_of w)) (λ d'. groups_from known (dependencies v) d' ws (end_of w) size)))
 
+-- the groups of a text from a place on, over the table of the formula's variables
+abbrev pub groups_at : List ℕ → ℕ → Where → Declared → Got Declared
+groups_at text p m d = groups_from (length d.table) m d (words_from text p) p (length text)
+
 -- what follows a part that was read; a refusal goes through unchanged
 abbrev pub followed : {X Y : Type 0} → Result X Fault → (X → Result Y Refusal) → Result Y Refusal
 followed (Ok x) f = f x
@@ -146,10 +156,6 @@ begins (w ∷ ws) = begun w
 abbrev pub Begins : Option Group → List Spelt → List Spelt → ℕ → ℕ → ℕ → Type 0
 Begins (Some g) was is p q size = (w : Spelt) × (was ≡ w ∷ is) × (begun w ≡ Some g) × (q ≡ end_of w) × Further p q size
 Begins None was is p q size = (begins was ≡ None) × (q ≡ p)
-
-abbrev pub told_groups : Result Counts Fault → List Variable → List Spelt → ℕ → Got Declared
-told_groups (Ok c) vs ws p = Ok (declared c vs, ws, p)
-told_groups (Err e) vs ws p = Err (told e)
 
 abbrev pub nothing_declared : List Variable → Declared
 nothing_declared vs = record { universals = 0; existentials = 0; table = vs }

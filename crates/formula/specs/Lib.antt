@@ -1,3 +1,4 @@
 pub mod Groups
 pub mod Clauses
 pub mod Reading
+pub mod Marks

@@ -1,9 +1,9 @@
 -- What the reader of formula texts answers.
-use Rattle.std.specs.Prelude.{◌≡◌, ℕ, Bool, false, cond, ◌||◌, ltb, List, [], ◌∷◌, length, replicate, Ok, Err, Result, ◌==◌, nat_lt}
+use Rattle.std.specs.Prelude.{◌≡◌, ℕ, Bool, false, cond, ◌||◌, List, [], ◌∷◌, length, replicate, Ok, Err, Result, ◌==◌, nat_lt}
 use Rattle.base.specs.declared.faults.Fault.{Fault}
 use Rattle.base.specs.Causes.{Refusal, refused, answered}
 use Rattle.words.specs.Words.{Spelt, words_from}
-use Rattle.words.specs.Due.{Got, and_then, number_from, name_from}
+use Rattle.words.specs.Due.{Got, and_then, number_from, name_from, unless_long}
 use Rattle.words.specs.Tables.{padded}
 use Rattle.formula.specs.declared.tables.Clause.{Clause}
 use Rattle.formula.specs.declared.tables.Head.{Head}
@@ -29,7 +29,7 @@ header_from ws variable_room clause_room size =
     and_then (name_from (112 ∷ []) ws size)
     (λ a. and_then (name_from (99 ∷ 110 ∷ 102 ∷ []) a.1 size)
     (λ b. and_then (count_from (λ n. (n == 0) || nat_lt 65535 n) variable_room b.1 size)
-    (λ v. and_then (count_from (λ n. ltb 16384 n) clause_room v.1 size) (λ c. Ok ((v.0, c.0), c.1, c.2)))))
+    (λ v. and_then (count_from (λ n. nat_lt 16384 n) clause_room v.1 size) (λ c. Ok ((v.0, c.0), c.1, c.2)))))
 
 -- A formula as its tables hold it, without the zeros behind them, and the place behind its last word.
 pub record Formula : Type 0 where
@@ -55,7 +55,7 @@ parts_from ws variable_room clause_room literal_room size =
 -- the formula that a text spells from a place on, for tables of these lengths
 abbrev pub formula_from : List ℕ → ℕ → ℕ → ℕ → ℕ → Result Formula Refusal
 formula_from text place variable_room clause_room literal_room =
-    cond (nat_lt 16777216 (length text)) (Err (refused 1 0 1)) (parts_from (words_from text place) variable_room clause_room literal_room (length text))
+    unless_long (length text) (parts_from (words_from text place) variable_room clause_room literal_room (length text))
 
 abbrev pub head_read : Result Formula Refusal → Result Head Refusal
 head_read (Ok f) = Ok f.head
@@ -83,6 +83,13 @@ pub record Tables : Type 0 where
   pub clauses : List Clause
   pub literals : List Literal
 
+abbrev pub tables : List Variable → List Clause → List Literal → Tables
+tables vs cs ls = record { variables = vs; clauses = cs; literals = ls }
+
+-- the formula that a text spells from a place on, for these tables
+abbrev pub formula_for : List ℕ → ℕ → Tables → Result Formula Refusal
+formula_for text place t = formula_from text place (length t.variables) (length t.clauses) (length t.literals)
+
 -- a reader's answer, and what it leaves in the tables and the place that it was lent
 pub record Agrees (f : Result Formula Refusal) (r : Result Head Fault) (was is : Tables) (p q : ℕ) : Type 0 where
   pub head : answered r ≡ head_read f
@@ -90,3 +97,7 @@ pub record Agrees (f : Result Formula Refusal) (r : Result Head Fault) (was is :
   pub clauses : is.clauses ≡ clauses_read f (length was.clauses)
   pub literals : is.literals ≡ literals_read f (length was.literals)
   pub place : q ≡ place_read f p
+
+-- the same of the formula that a text spells from a place on
+abbrev pub Reads : List ℕ → ℕ → Result Head Fault → Tables → Tables → ℕ → Type 0
+Reads text p r was is q = Agrees (formula_for text p was) r was is p q

@@ -1,6 +1,20 @@
 // The tables that a formula is read into.
 use base::values::ValueWord;
 
+// The most variables that a formula may have.
+pub const MAX_VARIABLES: u32 = 65_535;
+
+// The most clauses.
+pub const MAX_CLAUSES: u32 = 16_384;
+
+// The most universals, and the most existentials.
+pub const MAX_UNIVERSALS: u32 = 64;
+
+pub const MAX_EXISTENTIALS: u32 = 4_096;
+
+// The most literals of one clause.
+pub const MAX_LITERALS: usize = 1_024;
+
 // How a variable is quantified.
 #[derive(Clone, Copy, PartialEq, Eq, Debug, Default)]
 pub enum Kind {
@@ -11,7 +25,7 @@ pub enum Kind {
 }
 
 // A variable's record: its kind, its position among those of its kind, from 1, and the universals that it may
-// depend on. Variable v has index v - 1.
+// depend on. Variable v has index v - 1. The table is lent, and each entry has all three fields, 0 where they say nothing.
 #[derive(Clone, Copy, PartialEq, Eq, Debug, Default)]
 pub struct Variable {
     pub kind: Kind,

@@ -5,4 +5,3 @@ pub mod ReachTables
 pub mod OpeningLaws
 pub mod RightLaws
 pub mod RowCopies
-pub mod LowestLaws

@@ -1,33 +1,28 @@
 -- Where opening accepts, each output reads only inputs that its existential may depend on.
-use Rattle.std.proofs.Common.{◌≡◌, ℕ, ◌+◌, ◌-◌, ◌*◌, ◌/◌, ◌^◌, ◌<◌, ◌≤◌, Bool, true, false, cond, not, ◌&&◌, eqb, List, [], ◌∷◌, length, get_or, IfOk, Ok, Err, Result, sym, refl, ap, ◌∙◌, subst, arith}
-use Rattle.std.specs.List.{AllByRecursion}
+use Rattle.std.proofs.Common.{◌≡◌, ℕ, ◌+◌, ◌-◌, ◌*◌, ◌/◌, ◌^◌, ◌<◌, ◌≤◌, Bool, true, cond, not, ◌&&◌, eqb, List, [], ◌∷◌, filter_map, min, length, get_or, Some, None, Option, Ok, Err, sym, refl, ap, ◌∙◌, subst, arith}
+use Rattle.std.specs.List.{AllByRecursion, cons_option, reduce}
 use Rattle.std.proofs.ByRecursion.{All-get_or}
 use Rattle.std.proofs.lemmas.List.{get_or-take}
-use Rattle.std.proofs.lemmas.Result.{IfOk-at_ok}
-use Rattle.std.proofs.lemmas.Bool.{and_from, and_parts, cond_both, eqb-true, le-leb}
+use Rattle.std.proofs.lemmas.Bool.{and_from, and_parts, le-leb}
 use Rattle.std.proofs.lemmas.Bool.Decides.{nat_tests}
 use Rattle.base.specs.declared.values.ValueWord.{ValueWord}
-use Rattle.base.specs.Causes.{Refusal}
+use Rattle.base.specs.Causes.{refused}
 use Rattle.base.specs.Words.{has_bit, within_word}
 use Rattle.base.proofs.WordLaws.{within_bound, within_yes}
-use Rattle.formula.specs.declared.tables.Kind.{Kind}
-use Rattle.formula.specs.declared.tables.Kind.TheVariants as kind
 use Rattle.formula.specs.declared.tables.Variable.{Variable}
-use Rattle.formula.specs.Groups.{no_variable}
+use Rattle.formula.specs.Groups.{no_variable, is_existential}
 use Rattle.reach.specs.Reach.{fills, Leads}
 use Rattle.spelling.specs.Dqbf.{Dqbf, existentials_of, record_of}
 use Rattle.spelling.specs.CircuitGrammar.{wires_of}
-use Rattle.audit.specs.FormulaAudit.{head_lawful, variables_lawful, clauses_lawful}
+use Rattle.audit.specs.FormulaAudit.{variables_lawful}
 use Rattle.audit.proofs.FormulaBounds.{variables_bound}
-use Rattle.audit.proofs.FormulaOwners as owners
 use Rattle.audit.proofs.FormulaPlaces.{existentials_all, place_existential}
 use Rattle.audit.proofs.FormulaVariables.{decides_variables}
 use Rattle.models.specs.CircuitValues.{output_at, existential_at, ReadsAllowed}
 use Rattle.models.specs.HeldTables.{RowsOfFormula, RowsOfCircuit, lawful_formula, lawful_circuit, aig_of, Held}
 use Rattle.models.proofs.CircuitRows.{lawful_rows}
 use Rattle.models.proofs.GateLaws.{ordered_at}
-use Rattle.gates.specs.CircuitWorlds.{OpensRight}
-use Rattle.gates.specs.Wiring.{output_reach, lower, is_existential, leaving, lowest_leaving, gate_reaches, truth_opening}
+use Rattle.gates.specs.Wiring.{output_reach, leaving, lowest_leaving, gate_reaches, reach_told, truth_opening}
 use Rattle.gates.proofs.ReachTables.{path_reach}
 
 -- What an accepted opening says: lawful tables, equal counts, and no output that leaves its dependencies.
@@ -36,54 +31,34 @@ pub record Opened (t : RowsOfFormula) (c : RowsOfCircuit) : Type 0 where
   pub circuit : lawful_circuit c ≡ true
   pub inputs : c.head.inputs ≡ t.head.universals
   pub outputs : c.head.outputs ≡ t.head.existentials
-  pub none : lowest_leaving c (gate_reaches c) t.variables ≡ 0
+  pub none : lowest_leaving c (gate_reaches c) t.variables ≡ None
+
+-- what its tests say where all of them pass
+accepts : (formula circuit : Bool) (i n k m : ℕ) (o : Option ℕ) → cond (formula && circuit) (cond (eqb i n && eqb k m) (reach_told o) (Err (refused 13 0 4))) (Err (refused 12 0 4)) ≡ Ok tt → (formula ≡ true) × (circuit ≡ true) × (i ≡ n) × (k ≡ m) × (o ≡ None)
+accepts formula circuit i n k m o e = grind (arith, nat_tests, e)
 
 -- it says so wherever it answers Ok
 pub opened : (t : RowsOfFormula) (c : RowsOfCircuit) → truth_opening t c ≡ Ok tt → Opened t c
 opened t c e =
-    IfOk-at_ok (λ u. Opened t c) e
-    (cond_both (lawful_formula t && lawful_circuit c) _ _ (λ m. IfOk m (λ u. Opened t c))
-    (λ a. cond_both (eqb c.head.inputs t.head.universals && eqb c.head.outputs t.head.existentials) _ _ (λ m. IfOk m (λ u. Opened t c))
-    (λ b. cond_both (eqb (lowest_leaving c (gate_reaches c) t.variables) 0) _ _ (λ m. IfOk m (λ u. Opened t c))
-    (λ z.
-    let p = and_parts (lawful_formula t) (lawful_circuit c) a in
-    let q = and_parts (eqb c.head.inputs t.head.universals) (eqb c.head.outputs t.head.existentials) b in
-    record {
-      formula = p.0;
-      circuit = p.1;
-      inputs = eqb-true c.head.inputs t.head.universals q.0;
-      outputs = eqb-true c.head.outputs t.head.existentials q.1;
-      none = eqb-true (lowest_leaving c (gate_reaches c) t.variables) 0 z;
-    })
-    (λ z. tt))
-    (λ b. tt))
-    (λ a. tt))
+    let (formula, circuit, inputs, outputs, none) = accepts _ _ _ _ _ _ _ e in
+    record { formula = formula; circuit = circuit; inputs = inputs; outputs = outputs; none = none }
 
 -- no existential's output leaves its dependencies
-lower_zero : (j k : ℕ) → lower j k ≡ 0 → (j ≡ 0) × (k ≡ 0)
-lower_zero j k e = (grind (arith, nat_tests), grind (arith, nat_tests))
+none_kept : {Y : Type 0} (f : Y → Y → Y) (o : Option Y) (ys : List Y) → reduce f (cons_option o ys) ≡ None → (o ≡ None) × (reduce f ys ≡ None)
+none_kept f o ys e = grind (arith, e)
 
-none_leaving : (c : RowsOfCircuit) (reaches : List ValueWord) (xs : List Variable) → lowest_leaving c reaches xs ≡ 0 → AllByRecursion (λ x. leaving c reaches x ≡ 0) xs
-none_leaving c reaches [] e = tt
-none_leaving c reaches (x ∷ xs) e =
-    let p = lower_zero (leaving c reaches x) (lowest_leaving c reaches xs) e in
-    (p.0, none_leaving c reaches xs p.1)
+none_mapped : {X Y : Type 0} (f : Y → Y → Y) (h : X → Option Y) (xs : List X) → reduce f (filter_map h xs) ≡ None → AllByRecursion (λ x. h x ≡ None) xs
+none_mapped f h [] e = tt
+none_mapped f h (x ∷ xs) e =
+    let (first, rest) = none_kept f (h x) (filter_map h xs) e in
+    (first, none_mapped f h xs rest)
 
-stays : (inside : Bool) (p : ℕ) → 1 ≤ p → cond (not inside) p 0 ≡ 0 → inside ≡ true
-stays true p low e = refl
-stays false p low e = absurd (omega arith)
+stays : (existential inside : Bool) (p : ℕ) → existential ≡ true → cond (existential && not inside) (Some p) None ≡ None → inside ≡ true
+stays existential inside p is e = grind (arith, nat_tests, is, e)
 
-same_test : (k : Kind) → is_existential k ≡ owners.is_existential k
-same_test kind.Undeclared = refl
-same_test kind.Universal = refl
-same_test kind.Existential = refl
-
-not_leaving : (c : RowsOfCircuit) (reaches : List ValueWord) (x : Variable) (k : ℕ) → leaving c reaches x ≡ 0 → owners.is_existential x.kind ≡ true → x.position ≡ k → 1 ≤ k → within_word (output_reach c reaches k) x.dependencies ≡ true
-not_leaving c reaches x k e is at low =
-    let inside = within_word (output_reach c reaches x.position) x.dependencies in
-    ap (λ p. within_word (output_reach c reaches p) x.dependencies) (sym at)
-    ∙ stays inside x.position (omega arith)
-    (ap (λ b. cond (b && not inside) x.position 0) (sym (same_test x.kind ∙ is)) ∙ e)
+not_leaving : (c : RowsOfCircuit) (reaches : List ValueWord) (x : Variable) (k : ℕ) → leaving c reaches x ≡ None → is_existential x.kind ≡ true → x.position ≡ k → within_word (output_reach c reaches k) x.dependencies ≡ true
+not_leaving c reaches x k e is at =
+    ap (λ p. within_word (output_reach c reaches p) x.dependencies) (sym at) ∙ stays _ _ _ is e
 
 module _ (t : RowsOfFormula) (c : RowsOfCircuit) (start : Opened t c) (f : Dqbf) (held : Held t f) where
   abbrev existential : ℕ → ℕ
@@ -103,18 +78,19 @@ module _ (t : RowsOfFormula) (c : RowsOfCircuit) (start : Opened t c) (f : Dqbf)
       subst P (held.holds.variables (existential k) least (omega arith))
       (All-get_or P t.variables (existential k - 1) no_variable (omega arith) all)
 
+  variables_pass : variables_lawful t.head t.variables ≡ true
+  variables_pass = (and_parts _ _ (and_parts _ _ start.formula).0).1
+
   words_bound : AllByRecursion (λ x. x.dependencies.bits < 2 ^ 64) t.variables
   words_bound =
       let h = t.head in
-      let a = and_parts (head_lawful h (length t.variables) (length t.clauses) && variables_lawful h t.variables) (clauses_lawful h t.variables t.clauses t.literals) start.formula in
-      let b = and_parts (head_lawful h (length t.variables) (length t.clauses)) (variables_lawful h t.variables) a.0 in
       let few_universals = held.lawful.few_universals in
       let few_existentials = held.lawful.few_existentials in
       let fits = held.fits.variables in
       let head_variables = held.holds.head_variables in
       let head_universals = held.holds.head_universals in
       let head_existentials = held.holds.head_existentials in
-      variables_bound h t.variables ((decides_variables h t.variables (omega arith) (omega arith) (omega arith)).0 b.1)
+      variables_bound h t.variables ((decides_variables h t.variables (omega arith) (omega arith) (omega arith)).0 variables_pass)
 
   -- a path from output k leads to an input that the existential may depend on
   reads_right : (k i : ℕ) → 1 ≤ k → k ≤ length (aig_of c).outputs → 1 ≤ i → i ≤ c.head.inputs → Leads c.head.inputs (aig_of c).gates (output_at (aig_of c) k / 2) i → has_bit (record_of f.prefix (existential k)).dependencies i ≡ true
@@ -130,7 +106,7 @@ module _ (t : RowsOfFormula) (c : RowsOfCircuit) (start : Opened t c) (f : Dqbf)
       let inside : k ≤ length (existentials_of f.prefix) = omega arith in
       let (is, at) = place_existential f.prefix (existential k) k held.lawful.once (low, inside, refl) in
       let reach = output_reach c (gate_reaches c) k in
-      let within = not_leaving c (gate_reaches c) x k (record_passes (λ y. leaving c (gate_reaches c) y ≡ 0) (none_leaving c (gate_reaches c) t.variables start.none) k low inside) is at low in
+      let within = not_leaving c (gate_reaches c) x k (record_passes (λ y. leaving c (gate_reaches c) y ≡ None) (none_mapped min (leaving c (gate_reaches c)) t.variables start.none) k low inside) is at in
       let same : output_at (aig_of c) k ≡ get_or c.outputs (k - 1) 0 = get_or-take c.head.outputs c.outputs (k - 1) 0 (omega arith) in
       let bound : output_at (aig_of c) k ≤ 2 * wires_of (aig_of c) + 1 = All-get_or (λ o. o ≤ 2 * wires_of (aig_of c) + 1) (aig_of c).outputs (k - 1) 0 (omega arith) lawful.outputs in
       let full : fills c.head c.gates 60000 ≡ true = and_from _ _ (le-leb c.head.gates (length c.gates) counts.gates_fit) (le-leb c.head.gates 60000 counts.few_gates) in
@@ -151,11 +127,3 @@ opening_right t c e f held =
       outputs = rows.outputs ∙ start.outputs ∙ held.holds.head_existentials;
       reads = reads_right t c start f held;
     }
-
--- whatever opening answers
-pub opens_right : (t : RowsOfFormula) (c : RowsOfCircuit) → OpensRight (truth_opening t c) t c
-opens_right t c = answers (truth_opening t c) refl
-  where
-    answers : (r : Result (Unit {0}) Refusal) → truth_opening t c ≡ r → OpensRight r t c
-    answers (Ok u) e = opening_right t c e
-    answers (Err u) e = tt

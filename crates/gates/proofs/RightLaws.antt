@@ -7,11 +7,10 @@ use Rattle.formula.specs.declared.tables.Kind.{Kind}
 use Rattle.formula.specs.declared.tables.Kind.TheVariants as kind
 use Rattle.formula.specs.declared.tables.Literal.{Literal}
 use Rattle.formula.specs.declared.tables.Variable.{Variable}
-use Rattle.formula.specs.Groups.{is_undeclared, is_universal}
+use Rattle.formula.specs.Groups.{is_undeclared, is_universal, is_existential}
 use Rattle.spelling.specs.CircuitGrammar.{Aig, wires_of}
 use Rattle.spelling.specs.Dqbf.{Declaration, Dqbf, member, record_of}
 use Rattle.spelling.proofs.PrefixLaws.{variables_of, universal_place}
-use Rattle.audit.proofs.FormulaOwners.{is_existential}
 use Rattle.audit.proofs.FormulaPlaces.{existential_place}
 use Rattle.clauses.specs.Worlds.{true_in}
 use Rattle.models.specs.CircuitValues.{Inputs, gate_values, inputs_by, circuit_functions, ReadsAllowed, RightCircuits}

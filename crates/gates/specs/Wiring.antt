@@ -1,5 +1,6 @@
 -- The truth side: the clauses that say what circuits compute, and the formula's clauses over their wires.
-use Rattle.std.specs.Prelude.{ℕ, ◌+◌, ◌-◌, ◌*◌, ◌/◌, ◌%◌, min, Bool, true, false, cond, not, ◌&&◌, List, [], ◌∷◌, map, Ok, Err, Result, ◌==◌, nat_le, slice_index, slice_index_or}
+use Rattle.std.specs.Prelude.{ℕ, ◌+◌, ◌-◌, ◌*◌, ◌/◌, min, Bool, true, false, cond, not, ◌&&◌, List, [], ◌∷◌, map, filter_map, Some, None, Ok, Err, Option, Result, ◌==◌, nat_le, slice_index, slice_index_or}
+use Rattle.std.specs.List.{reduce}
 use Rattle.base.specs.declared.values.ValueWord.{ValueWord}
 use Rattle.base.specs.Causes.{Refusal, refused}
 use Rattle.base.specs.Words.{empty_word, within_word}
@@ -8,16 +9,17 @@ use Rattle.formula.specs.declared.tables.Kind.{Kind}
 use Rattle.formula.specs.declared.tables.Kind.TheVariants as kind
 use Rattle.formula.specs.declared.tables.Literal.{Literal}
 use Rattle.formula.specs.declared.tables.Variable.{Variable}
+use Rattle.formula.specs.Groups.{is_existential}
 use Rattle.reach.specs.Reach.{wire_reach, reaches_table}
 use Rattle.clauses.specs.declared.entry.Entry.{Entry}
-use Rattle.clauses.specs.Worlds.{complement_entry}
+use Rattle.clauses.specs.Worlds.{entry_of, complement_entry}
 use Rattle.records.specs.declared.step.Premise.{Premise}
 use Rattle.records.specs.declared.step.Premise.TheVariants as premise
 use Rattle.models.specs.HeldTables.{RowsOfFormula, RowsOfCircuit, lawful_formula, lawful_circuit, record_at, clause_of}
 
 -- a literal of the side: code 2w for wire w, 2w + 1 for its negation (codes have four bytes, which no lawful tables pass)
 abbrev pub wire_entry : ℕ → Entry
-wire_entry code = record { code = code % 4294967296; values = empty_word }
+wire_entry code = entry_of code empty_word
 
 abbrev pub not_entry : ℕ → Entry
 not_entry code = complement_entry (wire_entry code)
@@ -85,28 +87,23 @@ goal_number t = min t.head.clauses 16384
 abbrev pub output_reach : RowsOfCircuit → List ValueWord → ℕ → ValueWord
 output_reach c reaches k = wire_reach c.head.inputs reaches (slice_index c.outputs (k - 1) / 2)
 
--- the smaller of two numbers, where 0 stands for none
-abbrev pub lower : ℕ → ℕ → ℕ
-lower j k = cond (j == 0) k (cond (k == 0) j (min j k))
-
-abbrev pub is_existential : Kind → Bool
-is_existential kind.Undeclared = false
-is_existential kind.Universal = false
-is_existential kind.Existential = true
-
--- the position of an existential whose output reads an input outside its dependencies; 0 for any other variable
-abbrev pub leaving : RowsOfCircuit → List ValueWord → Variable → ℕ
+-- the position of an existential whose output reads an input outside its dependencies
+abbrev pub leaving : RowsOfCircuit → List ValueWord → Variable → Option ℕ
 leaving c reaches x =
-    cond (is_existential x.kind && not (within_word (output_reach c reaches x.position) x.dependencies)) x.position 0
+    cond (is_existential x.kind && not (within_word (output_reach c reaches x.position) x.dependencies)) (Some x.position) None
 
--- the lowest of them; 0 where there is none
-abbrev pub lowest_leaving : RowsOfCircuit → List ValueWord → List Variable → ℕ
-lowest_leaving c reaches [] = 0
-lowest_leaving c reaches (x ∷ xs) = lower (leaving c reaches x) (lowest_leaving c reaches xs)
+-- the lowest of them
+abbrev pub lowest_leaving : RowsOfCircuit → List ValueWord → List Variable → Option ℕ
+lowest_leaving c reaches xs = reduce min (filter_map (leaving c reaches) xs)
 
 -- the reaches of the gates, at most 60,000
 abbrev pub gate_reaches : RowsOfCircuit → List ValueWord
 gate_reaches c = reaches_table c.head c.gates 60000
+
+-- an output that reads more than it may is refused
+abbrev pub reach_told : Option ℕ → Result (Unit {0}) Refusal
+reach_told None = Ok tt
+reach_told (Some k) = Err (refused 14 k 4)
 
 -- Opening: refused for tables that no accepted reading leaves, for counts that differ, and for the lowest output that reads an
 -- input outside its existential's dependencies.
@@ -114,6 +111,6 @@ abbrev pub truth_opening : RowsOfFormula → RowsOfCircuit → Result (Unit {0})
 truth_opening t c =
     cond (lawful_formula t && lawful_circuit c)
     (cond (c.head.inputs == t.head.universals && c.head.outputs == t.head.existentials)
-    (cond (lowest_leaving c (gate_reaches c) t.variables == 0) (Ok tt) (Err (refused 14 (lowest_leaving c (gate_reaches c) t.variables) 4)))
+    (reach_told (lowest_leaving c (gate_reaches c) t.variables))
     (Err (refused 13 0 4)))
     (Err (refused 12 0 4))

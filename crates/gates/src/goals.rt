@@ -14,12 +14,12 @@ fn goal_entry(formula: &FormulaTables, wires: u32, literal: Literal) -> Entry
     ensures { result ≡ goal_entry formula.now.variables.now wires literal }
 {
     let variable = formula.variable(literal.variable);
-    let sign = if literal.negative { 1 } else { 0 };
-    match variable.kind {
-        Kind::Undeclared => wire_entry(0),
-        Kind::Universal => wire_entry(2 * variable.position as u64 + sign),
-        Kind::Existential => wire_entry(2 * (wires as u64 + variable.position as u64) + sign),
-    }
+    let wire = match variable.kind {
+        Kind::Undeclared => return wire_entry(0),
+        Kind::Universal => u64::from(variable.position),
+        Kind::Existential => u64::from(wires) + u64::from(variable.position),
+    };
+    wire_entry(2 * wire + u64::from(literal.negative))
 }
 
 // Copies a goal, or as much of it as there is room for, to the front of a row; answers how many literals.
@@ -29,8 +29,9 @@ pub fn copy_goal(formula: &FormulaTables, wires: u32, number: u32, row: &mut [En
 {
     let clause = formula.clause(number);
     let count = clause.len().min(row.len());
-    for i in 0..count {
-        row[i] = goal_entry(formula, wires, clause[i]);
+    // By numbers: what is written through a row's `iter_mut` in a `zip` is not known behind the loop.
+    for (i, literal) in clause[..count].iter().enumerate() {
+        row[i] = goal_entry(formula, wires, *literal);
     }
     count
 }

@@ -1,6 +1,5 @@
 // The clauses that say what circuits compute.
-ghost use Rattle.std.specs.Prelude.{◌≡◌, Ok, slice_index, slice_index_or};
-ghost use Rattle.circuit.specs.Reading.{no_gate};
+ghost use Rattle.std.specs.Prelude.{◌≡◌, Ok, slice_index};
 ghost use Rattle.clauses.specs.Laid.{Laid};
 ghost use Rattle.models.specs.HeldTables.{circuit_rows};
 ghost use Rattle.gates.specs.CircuitWorlds.{HoldsInCircuits};
@@ -8,19 +7,15 @@ ghost use Rattle.gates.specs.Wiring.{wire_entry, not_entry, constant_claim, gate
 
 use base::faults::Cause;
 use base::values::ValueWord;
-use circuit::tables::Gate;
 use clauses::entry::Entry;
 use clauses::literal::Literal;
 use models::tables::CircuitTables;
 
-// The entry of a code, of which the lower four bytes are kept.
+// The entry of a literal of the wires, by its code; it has no values.
 pub(crate) fn wire_entry(code: u64) -> Entry
     ensures { result ≡ wire_entry code }
 {
-    Entry {
-        code: (code % 4_294_967_296) as u32,
-        values: ValueWord::empty(),
-    }
+    Entry::of(code, ValueWord::empty())
 }
 
 // Its complement.
@@ -51,7 +46,7 @@ fn lay_constant(number: u16, part: u8, row: &mut [Entry]) -> Result<usize, Cause
     lay(&[not_entry(0)], row)
 }
 
-// Lays a clause of a gate with the literal a and the right literals r and s.
+// Lays a clause of a gate with the literal a and the right literals r and s. A part is a byte of a record: any value may come.
 fn lay_gate_clause(a: u64, r: u64, s: u64, part: u8, row: &mut [Entry]) -> Result<usize, Cause>
     ensures { Laid (gate_clauses a r s part) result row.old row.new }
 {
@@ -63,26 +58,18 @@ fn lay_gate_clause(a: u64, r: u64, s: u64, part: u8, row: &mut [Entry]) -> Resul
     }
 }
 
-// The record of a gate, by its index; a gate of two zeros where the table is shorter.
-fn gate_record(gates: &[Gate], index: usize) -> Gate
-    ensures { result ≡ slice_index_or gates.now index no_gate }
-{
-    match gates.get(index) {
-        Some(record) => *record,
-        None => Gate { left: 0, right: 0 },
-    }
-}
-
-// Lays a clause of a gate, by its number from 1.
+// Lays a clause of a gate, by its number from 1. An output (`lay_output`) differs: it has one literal and
+// two clauses, a gate two right literals and three clauses.
 fn lay_gate(circuit: &CircuitTables, gate: u16, part: u8, row: &mut [Entry]) -> Result<usize, Cause>
     ensures { Laid (gate_claim (circuit_rows circuit.now) gate part) result row.old row.new }
 {
-    if gate == 0 || gate as u32 > circuit.head.gates {
+    if !(1..=circuit.head.gates).contains(&u32::from(gate)) {
         return Err(Cause::NotThere);
     }
-    let record = gate_record(circuit.gates, gate as usize - 1);
-    let own = 2 * (circuit.head.inputs as u64 + gate as u64);
-    lay_gate_clause(own, record.left as u64, record.right as u64, part, row)
+    let index = usize::from(gate) - 1;
+    let record = circuit.gates.get(index).copied().unwrap_or_default();
+    let own = 2 * (u64::from(circuit.head.inputs) + u64::from(gate));
+    lay_gate_clause(own, record.left.into(), record.right.into(), part, row)
 }
 
 // Lays a clause of an existential with the literal e and its output's literal o.
@@ -96,14 +83,11 @@ fn lay_output_clause(e: u64, o: u64, part: u8, row: &mut [Entry]) -> Result<usiz
     }
 }
 
-// The literal of an output, by its index; 0 where the table is shorter.
+// The literal of an output, by its index; 0, as in the table's free entries, where the table is shorter.
 pub(crate) fn output_literal(outputs: &[u32], index: usize) -> u32
     ensures { result ≡ slice_index outputs.now index }
 {
-    match outputs.get(index) {
-        Some(literal) => *literal,
-        None => 0,
-    }
+    outputs.get(index).copied().unwrap_or_default()
 }
 
 // Lays a clause of an output, by its number from 1.
@@ -115,16 +99,17 @@ fn lay_output(
 ) -> Result<usize, Cause>
     ensures { Laid (output_claim (circuit_rows circuit.now) output part) result row.old row.new }
 {
-    if output == 0 || output as u32 > circuit.head.outputs {
+    if !(1..=circuit.head.outputs).contains(&u32::from(output)) {
         return Err(Cause::NotThere);
     }
-    let literal = output_literal(circuit.outputs, output as usize - 1);
-    let own = 2 * (circuit.head.wires as u64 + output as u64);
-    lay_output_clause(own, literal as u64, part, row)
+    let literal = output_literal(circuit.outputs, usize::from(output) - 1);
+    let own = 2 * (u64::from(circuit.head.wires) + u64::from(output));
+    lay_output_clause(own, literal.into(), part, row)
 }
 
 // Lays a premise of the circuits at the front of a row: class 0 is the constant, class 1 the gates, class 2 the outputs; answers
-// how many literals it has. Refused where there is no such premise; and where the row is shorter, with nothing changed.
+// how many literals it has. Refused where there is no such premise; and where the row is shorter, with nothing changed. The class
+// is a byte of a record: any value may come, and each that names a class stands in one arm.
 pub fn lay_wiring(
     circuit: &CircuitTables,
     class: u8,

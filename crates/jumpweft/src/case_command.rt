@@ -1,13 +1,12 @@
 // `jumpweft true` and `jumpweft false`: the whole task, from the texts and the proof to the slip.
 use super::arguments::Arguments;
-use super::input::{Text, read_named};
-use super::number::plain_u32;
+use super::failure::{Failure, decided, refused, text_refused};
+use super::number::plain;
 use super::shelf_options::{ShelfKind, ShelfRows};
-use super::show;
-use super::slip_command::{is_decided, verdict};
-use super::slip_file::write_slip_file;
+use super::slip_file::{print_slip, write_slip_file};
 use super::standard_error::StandardError;
-use anyhow::anyhow;
+use super::text::Text;
+use anyhow::{Context, anyhow};
 use engine::shelf::Shelf;
 use records::slip::Slip;
 use replay::report::{Report, Taken};
@@ -18,99 +17,70 @@ use tasks::task::{check_falsity, check_truth};
 
 const OPTIONS: [&str; 5] = ["--case", "--slip", "--shelf", "--filed", "--entries"];
 
-// The texts of a case, its number, and where its slip is written. Where there is no circuit, the proof stands in its
-// place, and is not read as one.
+// The texts of a case, with a circuit on the truth side alone, its number, and where its slip is written.
 #[derive(Clone, Copy, Drop)]
 struct Case<'a> {
-    formula: Text<'a>,
-    circuit: Text<'a>,
-    has_circuit: bool,
+    formula: &'a Text<'a>,
+    circuit: Option<&'a Text<'a>>,
     proof: &'a [u8],
     number: u32,
     slip: Option<&'a str>,
 }
 
-pub(crate) fn run_truth(rt: &HostRuntime, arguments: &Arguments) -> anyhow::Result<bool> {
-    check_usage(arguments, 3)?;
-    let Some(formula) = read_named(rt, arguments, 0)? else {
-        return Ok(false);
+pub(crate) fn run_truth(rt: &HostRuntime, arguments: &Arguments<'_>) -> Result<(), Failure> {
+    arguments.check_options(&OPTIONS)?;
+    let [formula, circuit, proof] = arguments.files.as_slice() else {
+        return Err(wrong_files());
     };
-    let Some(circuit) = read_named(rt, arguments, 1)? else {
-        return Ok(false);
-    };
-    let Some(proof) = read_named(rt, arguments, 2)? else {
-        return Ok(false);
-    };
-    let case = Case {
-        formula: Text {
-            name: arguments.file(0).unwrap_or(""),
-            bytes: formula.as_slice(),
-        },
-        circuit: Text {
-            name: arguments.file(1).unwrap_or(""),
-            bytes: circuit.as_slice(),
-        },
-        has_circuit: true,
-        proof: proof.as_slice(),
-        number: case_number(arguments)?,
-        slip: arguments.value("--slip"),
-    };
-    run_case(rt, arguments, case)
+    let formula = Text::read(rt, formula)?;
+    let circuit = Text::read(rt, circuit)?;
+    let proof = Text::read(rt, proof)?;
+    run_case(rt, arguments, &formula, Some(&circuit), &proof)
 }
 
-pub(crate) fn run_falsity(rt: &HostRuntime, arguments: &Arguments) -> anyhow::Result<bool> {
-    check_usage(arguments, 2)?;
-    let Some(formula) = read_named(rt, arguments, 0)? else {
-        return Ok(false);
+pub(crate) fn run_falsity(rt: &HostRuntime, arguments: &Arguments<'_>) -> Result<(), Failure> {
+    arguments.check_options(&OPTIONS)?;
+    let [formula, proof] = arguments.files.as_slice() else {
+        return Err(wrong_files());
     };
-    let Some(proof) = read_named(rt, arguments, 1)? else {
-        return Ok(false);
-    };
-    let case = Case {
-        formula: Text {
-            name: arguments.file(0).unwrap_or(""),
-            bytes: formula.as_slice(),
-        },
-        circuit: Text {
-            name: arguments.file(1).unwrap_or(""),
-            bytes: proof.as_slice(),
-        },
-        has_circuit: false,
-        proof: proof.as_slice(),
-        number: case_number(arguments)?,
-        slip: arguments.value("--slip"),
-    };
-    run_case(rt, arguments, case)
+    let formula = Text::read(rt, formula)?;
+    let proof = Text::read(rt, proof)?;
+    run_case(rt, arguments, &formula, None, &proof)
 }
 
-fn check_usage(arguments: &Arguments, files: usize) -> anyhow::Result<()> {
-    if !arguments.only_options(&OPTIONS) {
-        return Err(anyhow!("an option that this command does not have"));
-    }
-    if arguments.file_count() != files {
-        return Err(anyhow!(
-            "true takes a formula, a circuit and a proof; false takes a formula and a proof"
-        ));
-    }
-    Ok(())
-}
-
-fn case_number(arguments: &Arguments) -> anyhow::Result<u32> {
-    let Some(value) = arguments.value("--case") else {
-        return Ok(1);
-    };
-    match plain_u32(value.as_bytes()) {
-        Some(number) => Ok(number),
-        None => Err(anyhow!("--case takes a number below 2^32")),
-    }
+fn wrong_files() -> Failure {
+    Failure::Error(anyhow!(
+        "true takes a formula, a circuit and a proof; false takes a formula and a proof"
+    ))
 }
 
 // Checks the case on the shelf that the options name.
-fn run_case(rt: &HostRuntime, arguments: &Arguments, case: Case<'_>) -> anyhow::Result<bool> {
+fn run_case(
+    rt: &HostRuntime,
+    arguments: &Arguments<'_>,
+    formula: &Text<'_>,
+    circuit: Option<&Text<'_>>,
+    proof: &Text<'_>,
+) -> Result<(), Failure> {
+    let case = Case {
+        formula,
+        circuit,
+        proof: proof.bytes.as_slice(),
+        number: case_number(arguments)?,
+        slip: arguments.value("--slip"),
+    };
     let rows = ShelfRows::for_proof(arguments, case.proof.len())?;
+    // The two shelves are two types.
     match rows.kind {
         ShelfKind::Flat => check_and_print(rt, case, rows.flat(rt.alloc())?),
         ShelfKind::Linked => check_and_print(rt, case, rows.linked(rt.alloc())?),
+    }
+}
+
+fn case_number(arguments: &Arguments<'_>) -> anyhow::Result<u32> {
+    match arguments.value("--case") {
+        Some(value) => plain(value.as_bytes()).context("--case takes a number below 2^32"),
+        None => Ok(1),
     }
 }
 
@@ -118,10 +88,9 @@ fn check_and_print<F: Shelf + Drop>(
     rt: &HostRuntime,
     case: Case<'_>,
     shelf: F,
-) -> anyhow::Result<bool> {
+) -> Result<(), Failure> {
     let outcome = check(rt, case, shelf)?;
-    let accepted = print_outcome(rt, case, outcome)?;
-    Ok(accepted)
+    print_outcome(rt, case, outcome)
 }
 
 fn check<F: Shelf + Drop>(
@@ -129,44 +98,36 @@ fn check<F: Shelf + Drop>(
     case: Case<'_>,
     shelf: F,
 ) -> Result<Outcome, AllocError> {
-    let formula = case.formula.bytes;
-    let proof = case.proof;
     let heap = rt.alloc();
+    let formula = case.formula.bytes.as_slice();
+    let Case { proof, number, .. } = case;
     let mut progress = StandardError {
         rt,
         bytes: proof.len(),
     };
-    if case.has_circuit {
-        check_truth(
-            heap,
-            formula,
-            case.circuit.bytes,
-            proof,
-            case.number,
-            shelf,
-            &mut progress,
-        )
-    } else {
-        check_falsity(heap, formula, proof, case.number, shelf, &mut progress)
+    match case.circuit {
+        Some(circuit) => {
+            let circuit = circuit.bytes.as_slice();
+            check_truth(heap, formula, circuit, proof, number, shelf, &mut progress)
+        }
+        None => check_falsity(heap, formula, proof, number, shelf, &mut progress),
     }
 }
 
-// Prints how far the task came; answers whether the verdict is True or False.
-fn print_outcome(rt: &HostRuntime, case: Case<'_>, outcome: Outcome) -> Result<bool, io::Error> {
+// Prints how far the task came.
+fn print_outcome(rt: &HostRuntime, case: Case<'_>, outcome: Outcome) -> Result<(), Failure> {
     match outcome {
-        Outcome::FormulaRefused(fault) => {
-            show::refused_text(rt, "formula", case.formula, fault)?;
-            Ok(false)
-        }
+        Outcome::FormulaRefused(fault) => text_refused(rt, "formula", case.formula, fault),
         Outcome::CircuitRefused { formula, fault } => {
-            show::formula_line(rt, case.formula, formula)?;
-            show::refused_text(rt, "circuit", case.circuit, fault)?;
-            Ok(false)
+            println!(rt; "formula {}, {formula}", case.formula)?;
+            match case.circuit {
+                Some(circuit) => text_refused(rt, "circuit", circuit, fault),
+                None => refused(rt, fault),
+            }
         }
         Outcome::OpeningRefused { heads, fault } => {
             print_opening(rt, case, heads)?;
-            show::refusal(rt, fault)?;
-            Ok(false)
+            refused(rt, fault)
         }
         Outcome::Closed {
             heads,
@@ -182,12 +143,11 @@ fn print_outcome(rt: &HostRuntime, case: Case<'_>, outcome: Outcome) -> Result<b
 
 // Prints the texts' counts and the case's number.
 fn print_opening(rt: &HostRuntime, case: Case<'_>, heads: Heads) -> Result<(), io::Error> {
-    show::formula_line(rt, case.formula, heads.formula)?;
-    if let Some(head) = heads.circuit {
-        show::circuit_line(rt, case.circuit, head)?;
+    println!(rt; "formula {}, {}", case.formula, heads.formula)?;
+    if let (Some(circuit), Some(head)) = (case.circuit, heads.circuit) {
+        println!(rt; "circuit {circuit}, {head}")?;
     }
-    let number = case.number;
-    println!(rt; "open: case {number}")
+    println!(rt; "open: case {}", case.number)
 }
 
 fn print_report(rt: &HostRuntime, report: Report) -> Result<(), io::Error> {
@@ -198,13 +158,15 @@ fn print_report(rt: &HostRuntime, report: Report) -> Result<(), io::Error> {
     } = report.taken;
     if let Some(fault) = refusal {
         let number = records.saturating_add(1);
-        println!(rt; "record {number}, at byte {bytes}")?;
-        show::refusal(rt, fault)?;
+        println!(rt; "record {number}, at byte {bytes}\n{fault}")?;
     }
-    let clauses = report.clauses;
-    let entries = report.entries;
-    let settled = report.settled;
-    let goals = report.goals;
+    let Report {
+        clauses,
+        entries,
+        settled,
+        goals,
+        ..
+    } = report;
     println!(rt;
         "taken: {records} records, {bytes} bytes; clauses {clauses}, entries {entries}; goals settled {settled} of {goals}"
     )
@@ -216,14 +178,11 @@ fn print_end(
     file: Option<&str>,
     slip: Slip,
     bytes: [u8; 16],
-) -> Result<bool, io::Error> {
-    show::slip_line(rt, bytes)?;
+) -> Result<(), Failure> {
+    print_slip(rt, bytes)?;
     if let Some(name) = file {
-        if !write_slip_file(rt, name, bytes)? {
-            return Ok(false);
-        }
+        write_slip_file(rt, name, bytes)?;
     }
-    let said = verdict(slip);
-    println!(rt; "{said}")?;
-    Ok(is_decided(slip))
+    println!(rt; "{}", slip.verdict())?;
+    decided(slip)
 }

@@ -1,14 +1,17 @@
 // `jumpweft formula`: reads a formula into tables and prints them.
 use super::arguments::Arguments;
-use super::input::Input;
-use super::show;
-use base::values::ValueWord;
-use formula::tables::{Clause, Head, Kind, Literal, Variable};
+use super::failure::{Failure, refused};
+use super::text::Text;
+use base::faults::Fault;
+use formula::tables::{Clause, Head, Literal, MAX_CLAUSES, MAX_VARIABLES, Variable};
 use spelling::read_formula;
+use std::alloc::Global;
 use std::io;
 use std::io::{BufWriter, Write};
 use words::place::Place;
+use words::word::LONGEST_TEXT;
 
+// The tables of a formula, of the lengths that the options give; a circuit's have other columns.
 #[derive(Drop)]
 struct Tables {
     variables: Vec<Variable>,
@@ -16,155 +19,68 @@ struct Tables {
     literals: Vec<Literal>,
 }
 
-pub(crate) fn run(rt: &HostRuntime, arguments: &Arguments) -> anyhow::Result<bool> {
-    let Some(input) = Input::read(
-        rt,
-        arguments,
-        &["--at", "--variables", "--clauses", "--literals"],
-    )?
-    else {
-        return Ok(false);
+pub(crate) fn run(rt: &HostRuntime, arguments: &Arguments<'_>) -> Result<(), Failure> {
+    arguments.check_options(&["--at", "--variables", "--clauses", "--literals"])?;
+    let text = Text::read(rt, arguments.only_file()?)?;
+    let mut place = Place {
+        at: arguments.number("--at", 0)?,
     };
-    let mut tables = make_tables(rt, arguments, input.text.len())?;
-    let accepted = read_and_print(rt, input.text.as_slice(), input.start, &mut tables)?;
-    Ok(accepted)
-}
-
-// Tables of the lengths that the options give, or else long enough for every formula of this many bytes.
-fn make_tables(rt: &HostRuntime, arguments: &Arguments, bytes: usize) -> anyhow::Result<Tables> {
-    let heap = rt.alloc();
-    let variable_room = arguments.number("--variables", 65_535)?;
-    let clause_room = arguments.number("--clauses", 16_384)?;
-    // A text of b bytes has at most b / 2 literals.
-    let literal_room = arguments.number("--literals", (bytes / 2).min(16_777_216))?;
-    let none = Variable {
-        kind: Kind::Undeclared,
-        position: 0,
-        dependencies: ValueWord::empty(),
-    };
-    let variables = vec![in heap; none; variable_room]?;
-    let clauses = vec![in heap; Clause { first: 0, len: 0 }; clause_room]?;
-    let literals = vec![in heap; Literal {
-        variable: 0,
-        negative: false
-    }; literal_room]?;
-    Ok(Tables {
-        variables,
-        clauses,
-        literals,
-    })
-}
-
-fn read_and_print(
-    rt: &HostRuntime,
-    text: &[u8],
-    start: Place,
-    tables: &mut Tables,
-) -> Result<bool, io::Error> {
-    let mut place = start;
-    match read_formula(
-        text,
-        &mut place,
-        tables.variables.as_mut_slice(),
-        tables.clauses.as_mut_slice(),
-        tables.literals.as_mut_slice(),
-    ) {
-        Ok(head) => {
-            print_formula(rt, place, head, tables)?;
-            Ok(true)
-        }
-        Err(fault) => {
-            show::refusal(rt, fault)?;
-            Ok(false)
-        }
-    }
-}
-
-fn print_formula(
-    rt: &HostRuntime,
-    place: Place,
-    head: Head,
-    tables: &Tables,
-) -> Result<(), io::Error> {
-    let mut out = BufWriter::new(rt.alloc(), rt.stdout())?;
-    show::accepted(&mut out, place)?;
-    print_head(&mut out, head)?;
-    print_variables(
-        &mut out,
-        show::front(tables.variables.as_slice(), head.variables),
-    )?;
-    print_clauses(
-        &mut out,
-        show::front(tables.clauses.as_slice(), head.clauses),
-        tables.literals.as_slice(),
-    )?;
-    out.flush()
-}
-
-fn print_head<W: Write>(out: &mut W, head: Head) -> Result<(), io::Error> {
-    let Head {
-        variables,
-        clauses,
-        universals,
-        existentials,
-    } = head;
-    writeln!(
-        out,
-        "V {variables}, C {clauses}, n {universals}, E {existentials}"
-    )
-}
-
-fn print_variables<W: Write>(out: &mut W, variables: &[Variable]) -> Result<(), io::Error> {
-    for (i, variable) in variables.iter().enumerate() {
-        print_variable(out, i.saturating_add(1), *variable)?;
-    }
+    let mut tables = Tables::new(rt.alloc(), arguments, text.bytes.len())?;
+    let head = tables
+        .read(text.bytes.as_slice(), &mut place)
+        .or_else(|fault| refused(rt, fault))?;
+    tables.print(rt, place, head)?;
     Ok(())
 }
 
-fn print_variable<W: Write>(
-    out: &mut W,
-    number: usize,
-    variable: Variable,
-) -> Result<(), io::Error> {
-    let position = variable.position;
-    let word = variable.dependencies.bits;
-    match variable.kind {
-        Kind::Undeclared => writeln!(out, "variable {number}: undeclared"),
-        Kind::Universal => writeln!(out, "variable {number}: universal {position}"),
-        Kind::Existential => writeln!(
-            out,
-            "variable {number}: existential {position}, dependencies {word:016x}"
-        ),
+impl Tables {
+    // Tables of the lengths that the options give, or else long enough for every formula of this many bytes.
+    fn new(heap: Global, arguments: &Arguments<'_>, bytes: usize) -> anyhow::Result<Tables> {
+        let variables = arguments.number("--variables", MAX_VARIABLES as usize)?;
+        let clauses = arguments.number("--clauses", MAX_CLAUSES as usize)?;
+        // A text of b bytes has at most b / 2 literals.
+        let literals = arguments.number("--literals", (bytes / 2).min(LONGEST_TEXT))?;
+        Ok(Tables {
+            variables: vec![in heap; Variable::default(); variables]?,
+            clauses: vec![in heap; Clause::default(); clauses]?,
+            literals: vec![in heap; Literal::default(); literals]?,
+        })
     }
-}
 
-fn print_clauses<W: Write>(
-    out: &mut W,
-    clauses: &[Clause],
-    literals: &[Literal],
-) -> Result<(), io::Error> {
-    for (i, clause) in clauses.iter().enumerate() {
-        print_clause(out, i.saturating_add(1), *clause, literals)?;
+    fn read(&mut self, text: &[u8], place: &mut Place) -> Result<Head, Fault> {
+        read_formula(
+            text,
+            place,
+            self.variables.as_mut_slice(),
+            self.clauses.as_mut_slice(),
+            self.literals.as_mut_slice(),
+        )
     }
-    Ok(())
+
+    fn print(&self, rt: &HostRuntime, place: Place, head: Head) -> Result<(), io::Error> {
+        let mut out = BufWriter::new(rt.alloc(), rt.stdout())?;
+        writeln!(out, "accepted, place {}\n{head}", place.at)?;
+        for (number, variable) in (1..=head.variables).zip(&self.variables) {
+            writeln!(out, "variable {number}: {variable}")?;
+        }
+        for (number, clause) in (1..=head.clauses).zip(&self.clauses) {
+            print_clause(&mut out, number, *clause, self.literals.as_slice())?;
+        }
+        out.flush()
+    }
 }
 
 fn print_clause<W: Write>(
     out: &mut W,
-    number: usize,
+    number: u32,
     clause: Clause,
     literals: &[Literal],
 ) -> Result<(), io::Error> {
     let Clause { first, len } = clause;
     write!(out, "clause {number}: first {first}, length {len}:")?;
-    for literal in show::front(show::behind(literals, first), len) {
-        print_literal(out, *literal)?;
+    let behind = literals.get(first as usize..).unwrap_or(&[]);
+    for literal in behind.iter().take(len as usize) {
+        write!(out, " {literal}")?;
     }
     writeln!(out)
-}
-
-fn print_literal<W: Write>(out: &mut W, literal: Literal) -> Result<(), io::Error> {
-    let variable = literal.variable;
-    let sign = if literal.negative { "-" } else { "" };
-    write!(out, " {sign}{variable}")
 }

@@ -6,20 +6,22 @@
 mod arguments;
 mod case_command;
 mod circuit_command;
+mod failure;
 mod formula_command;
-mod input;
 mod number;
 mod records_command;
 mod requests;
 mod session_command;
 mod shelf_options;
-mod show;
 mod slip_command;
 mod slip_file;
 mod standard_error;
+mod text;
 
 use anyhow::anyhow;
 use arguments::Arguments;
+use failure::Failure;
+use std::env;
 
 const USAGE: &str = "usage: jumpweft true FORMULA CIRCUIT PROOF [--case N] [--slip FILE] [SHELF]
        jumpweft false FORMULA PROOF [--case N] [--slip FILE] [SHELF]
@@ -32,26 +34,24 @@ SHELF: [--shelf flat|linked] [--filed K] [--entries W]";
 
 fn main(rt: HostRuntime) -> anyhow::Result<()> {
     match run(&rt) {
-        Ok(true) => Ok(()),
-        Ok(false) => Err(anyhow!("refused")),
-        Err(e) => {
+        Ok(()) => Ok(()),
+        Err(Failure::Told) => Err(anyhow!("refused")),
+        Err(Failure::Error(e)) => {
             eprintln!(rt; "jumpweft: {e}")?;
             Err(e)
         }
     }
 }
 
-fn run(rt: &HostRuntime) -> anyhow::Result<bool> {
-    let arguments = Arguments::read(rt)?;
+fn run(rt: &HostRuntime) -> Result<(), Failure> {
+    let words: Vec<String> = env::args(rt)?.collect(rt.alloc())?;
+    let arguments = Arguments::parse(rt.alloc(), words.as_slice())?;
     run_command(rt, &arguments)
 }
 
-// Runs the command that the arguments name; answers whether the status is 0.
-fn run_command(rt: &HostRuntime, arguments: &Arguments) -> anyhow::Result<bool> {
-    if arguments.value_missing() {
-        return Err(anyhow!("the last option has no value"));
-    }
-    match arguments.command() {
+// Runs the command that the arguments name.
+fn run_command(rt: &HostRuntime, arguments: &Arguments<'_>) -> Result<(), Failure> {
+    match arguments.command {
         "true" => case_command::run_truth(rt, arguments),
         "false" => case_command::run_falsity(rt, arguments),
         "session" => session_command::run(rt, arguments),
@@ -61,7 +61,7 @@ fn run_command(rt: &HostRuntime, arguments: &Arguments) -> anyhow::Result<bool> 
         "slip" => slip_command::run(rt, arguments),
         _ => {
             eprintln!(rt; "{USAGE}")?;
-            Ok(false)
+            Err(Failure::Told)
         }
     }
 }

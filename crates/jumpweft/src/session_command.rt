@@ -1,10 +1,11 @@
 // `jumpweft session`: one examiner, which answers the calls on standard input.
 use super::arguments::Arguments;
-use super::input::{Text, read_named};
+use super::failure::{Failure, text_refused};
 use super::requests::{Request, hex_bytes, read_request};
 use super::shelf_options::{ShelfKind, ShelfRows};
-use super::show;
-use anyhow::anyhow;
+use super::slip_file::print_slip;
+use super::text::Text;
+use anyhow::bail;
 use engine::examiner::Examiner;
 use engine::examiner::questions::entries_on;
 use engine::run::{Answer, Call, make_call};
@@ -17,82 +18,65 @@ use sides::truth::TruthSide;
 use std::io;
 use std::io::{BufRead, BufReader, BufWriter, Write};
 use texts::read::{circuit_rows, formula_rows};
+use texts::rows::{CircuitRows, FormulaRows};
 
 const CALLS: &str =
     "usage: open N | premise truth CLASS NUMBER PART | premise falsity CLAUSE VALUES | resolve FIRST SECOND POSITION | settle GOAL CLAUSE | take BYTES | close N | show N | shelf";
 
-// Answers whether the texts were accepted.
-pub(crate) fn run(rt: &HostRuntime, arguments: &Arguments) -> anyhow::Result<bool> {
-    check_usage(arguments)?;
+pub(crate) fn run(rt: &HostRuntime, arguments: &Arguments<'_>) -> Result<(), Failure> {
+    let (formula, circuit) = texts_of(arguments)?;
     let rows = ShelfRows::whole(arguments)?;
-    let Some(bytes) = read_named(rt, arguments, 0)? else {
-        return Ok(false);
-    };
-    let formula = Text {
-        name: arguments.file(0).unwrap_or(""),
-        bytes: bytes.as_slice(),
-    };
-    match arguments.file(1) {
-        Some(name) => run_truth(rt, arguments, rows, formula, name),
-        None => run_falsity(rt, rows, formula),
+    let formula = Text::read(rt, formula)?;
+    match circuit {
+        Some(circuit) => run_truth(rt, rows, &formula, &Text::read(rt, circuit)?),
+        None => run_falsity(rt, rows, &formula),
     }
 }
 
-fn check_usage(arguments: &Arguments) -> anyhow::Result<()> {
-    if !arguments.only_options(&["--shelf", "--filed", "--entries"]) {
-        return Err(anyhow!("an option that this command does not have"));
+// The file of the formula and, for the truth side, that of the circuit.
+fn texts_of<'a>(arguments: &Arguments<'a>) -> anyhow::Result<(&'a str, Option<&'a str>)> {
+    arguments.check_options(&["--shelf", "--filed", "--entries"])?;
+    match arguments.files.as_slice() {
+        [formula] => Ok((*formula, None)),
+        [formula, circuit] => Ok((*formula, Some(*circuit))),
+        _ => bail!("this command takes a formula and, for the truth side, a circuit"),
     }
-    let files = arguments.file_count();
-    if files == 0 || files > 2 {
-        return Err(anyhow!("this command takes a formula and, for the truth side, a circuit"));
-    }
-    Ok(())
 }
 
-fn run_falsity(rt: &HostRuntime, rows: ShelfRows, formula: Text<'_>) -> anyhow::Result<bool> {
-    let tables = match formula_rows(rt.alloc(), formula.bytes)? {
-        Ok(tables) => tables,
-        Err(fault) => {
-            show::refused_text(rt, "formula", formula, fault)?;
-            return Ok(false);
-        }
-    };
-    answer_on(rt, rows, FalsitySide::new(tables.tables()))
+fn run_falsity(rt: &HostRuntime, rows: ShelfRows, formula: &Text<'_>) -> Result<(), Failure> {
+    let formulas = read_formula(rt, formula)?;
+    answer_on(rt, rows, FalsitySide::new(formulas.tables()))
 }
 
 fn run_truth(
     rt: &HostRuntime,
-    arguments: &Arguments,
     rows: ShelfRows,
-    formula: Text<'_>,
-    name: &str,
-) -> anyhow::Result<bool> {
-    let Some(bytes) = read_named(rt, arguments, 1)? else {
-        return Ok(false);
-    };
-    let circuit = Text {
-        name,
-        bytes: bytes.as_slice(),
-    };
-    let tables = match formula_rows(rt.alloc(), formula.bytes)? {
-        Ok(tables) => tables,
-        Err(fault) => {
-            show::refused_text(rt, "formula", formula, fault)?;
-            return Ok(false);
-        }
-    };
-    let circuits = match circuit_rows(rt.alloc(), circuit.bytes)? {
-        Ok(circuits) => circuits,
-        Err(fault) => {
-            show::refused_text(rt, "circuit", circuit, fault)?;
-            return Ok(false);
-        }
-    };
-    answer_on(rt, rows, TruthSide::new(tables.tables(), circuits.tables()))
+    formula: &Text<'_>,
+    circuit: &Text<'_>,
+) -> Result<(), Failure> {
+    let formulas = read_formula(rt, formula)?;
+    let circuits = read_circuit(rt, circuit)?;
+    answer_on(
+        rt,
+        rows,
+        TruthSide::new(formulas.tables(), circuits.tables()),
+    )
+}
+
+fn read_formula(rt: &HostRuntime, text: &Text<'_>) -> Result<FormulaRows, Failure> {
+    let read = formula_rows(rt.alloc(), text.bytes.as_slice())?;
+    read.or_else(|fault| text_refused(rt, "formula", text, fault))
+}
+
+// As for a formula, but for the reader that is called and the rows that it fills.
+fn read_circuit(rt: &HostRuntime, text: &Text<'_>) -> Result<CircuitRows, Failure> {
+    let read = circuit_rows(rt.alloc(), text.bytes.as_slice())?;
+    read.or_else(|fault| text_refused(rt, "circuit", text, fault))
 }
 
 // Makes the examiner on the shelf that the options name.
-fn answer_on<S: Side + Drop>(rt: &HostRuntime, rows: ShelfRows, side: S) -> anyhow::Result<bool> {
+fn answer_on<S: Side + Drop>(rt: &HostRuntime, rows: ShelfRows, side: S) -> Result<(), Failure> {
+    // The two shelves are two types.
     match rows.kind {
         ShelfKind::Flat => answer_all(rt, side, rows.flat(rt.alloc())?),
         ShelfKind::Linked => answer_all(rt, side, rows.linked(rt.alloc())?),
@@ -104,14 +88,14 @@ fn answer_all<S: Side + Drop, F: Shelf + Drop>(
     rt: &HostRuntime,
     side: S,
     shelf: F,
-) -> anyhow::Result<bool> {
+) -> Result<(), Failure> {
     let mut examiner = Examiner::new(rt.alloc(), side, shelf)?;
     answer_lines(rt, &mut examiner)?;
     if let Some(number) = examiner.open_case() {
         let slip = examiner.close(Ticket::of(number));
-        show::slip_line(rt, write_slip(slip))?;
+        print_slip(rt, write_slip(slip))?;
     }
-    Ok(true)
+    Ok(())
 }
 
 fn answer_lines<S: Side, F: Shelf>(
@@ -130,7 +114,7 @@ fn answer_line<S: Side, F: Shelf>(
     examiner: &mut Examiner<S, F>,
     line: &[u8],
 ) -> Result<(), io::Error> {
-    match read_request(line) {
+    match read_request(rt.alloc(), line)? {
         Some(Request::Open(number)) => open(rt, examiner, number),
         Some(Request::Step(step)) => print_answer(rt, make_call(examiner, Call::Step(step))),
         Some(Request::Take(digits)) => take(rt, examiner, digits),
@@ -170,8 +154,8 @@ fn print_answer(rt: &HostRuntime, answer: Answer) -> Result<(), io::Error> {
         Answer::Number(number) => println!(rt; "clause {number}"),
         Answer::Took { number: 0, used } => println!(rt; "settled, {used} bytes"),
         Answer::Took { number, used } => println!(rt; "clause {number}, {used} bytes"),
-        Answer::Refused(fault) => show::refusal(rt, fault),
-        Answer::Ended(slip) => show::slip_line(rt, write_slip(slip)),
+        Answer::Refused(fault) => println!(rt; "{fault}"),
+        Answer::Ended(slip) => print_slip(rt, write_slip(slip)),
     }
 }
 
@@ -181,20 +165,21 @@ fn print_clause<F: Shelf>(rt: &HostRuntime, shelf: &F, number: u32) -> Result<()
     }
     let mut out = BufWriter::new(rt.alloc(), rt.stdout())?;
     write!(out, "clause {number}:")?;
+    // An index: entry by entry no row is needed to copy the clause to.
     for i in 0..shelf.length(number) {
         let entry = shelf.entry(number, i);
-        let code = entry.code;
-        let bits = entry.values.bits;
-        write!(out, " {code}:{bits:016x}")?;
+        write!(out, " {}:{:016x}", entry.code, entry.values.bits)?;
     }
     writeln!(out)?;
     out.flush()
 }
 
 fn print_shelf<F: Shelf>(rt: &HostRuntime, shelf: &F) -> Result<(), io::Error> {
-    let clauses = shelf.count();
-    let entries = entries_on(shelf);
-    let most_clauses = shelf.clause_limit();
-    let most_entries = shelf.entry_limit();
-    println!(rt; "clauses {clauses}, entries {entries}, K {most_clauses}, W {most_entries}")
+    println!(rt;
+        "clauses {}, entries {}, K {}, W {}",
+        shelf.count(),
+        entries_on(shelf),
+        shelf.clause_limit(),
+        shelf.entry_limit()
+    )
 }

@@ -1,22 +1,37 @@
 // The shelf that the options name, over rows of the lengths that they give.
 use super::arguments::Arguments;
 use anyhow::anyhow;
+use clauses::clause::LONGEST_CLAUSE;
+use linked::blocks::MOST_BLOCKS;
 use linked::shelf::LinkedShelf;
 use shelves::flat::FlatShelf;
+use shelves::{MOST_CLAUSES, MOST_ENTRIES};
 use std::alloc::{AllocError, Global};
+use std::str::FromStr;
 
-// The most clauses and entries that a shelf takes.
-const CLAUSES: u64 = 1_000_000;
+const CLAUSES: u64 = MOST_CLAUSES as u64;
 
-const ENTRIES: u64 = 16_000_000;
+const ENTRIES: u64 = MOST_ENTRIES as u64;
 
-// The most blocks of four entries that a linked shelf can use.
-const BLOCKS: u64 = 4_750_000;
+const BLOCKS: u64 = MOST_BLOCKS as u64;
 
-#[derive(Clone, Copy, Drop)]
+#[derive(Clone, Copy, Drop, Default)]
 pub(crate) enum ShelfKind {
+    #[default]
     Flat,
     Linked,
+}
+
+impl FromStr for ShelfKind {
+    type Err = anyhow::Error;
+
+    fn from_str(name: &str) -> anyhow::Result<ShelfKind> {
+        match name {
+            "flat" => Ok(ShelfKind::Flat),
+            "linked" => Ok(ShelfKind::Linked),
+            _ => Err(anyhow!("--shelf takes flat or linked")),
+        }
+    }
 }
 
 // The kind of shelf, and the lengths of its rows: how many clauses, and how many entries where an option gives them.
@@ -31,15 +46,35 @@ pub(crate) struct ShelfRows {
 
 impl ShelfRows {
     // The rows that the options give, by default long enough for every limit.
-    pub(crate) fn whole(arguments: &Arguments) -> anyhow::Result<ShelfRows> {
-        rows(arguments, CLAUSES, ENTRIES)
+    pub(crate) fn whole(arguments: &Arguments<'_>) -> anyhow::Result<ShelfRows> {
+        ShelfRows::given(arguments, CLAUSES, ENTRIES)
     }
 
     // The rows that the options give, by default long enough for every proof of this many bytes: a clause takes a
     // record of at least 8 bytes, and has at most 1,024 entries.
-    pub(crate) fn for_proof(arguments: &Arguments, bytes: usize) -> anyhow::Result<ShelfRows> {
+    pub(crate) fn for_proof(arguments: &Arguments<'_>, bytes: usize) -> anyhow::Result<ShelfRows> {
         let clauses = (bytes as u64 / 8).min(CLAUSES);
-        rows(arguments, clauses, (clauses * 1_024).min(ENTRIES))
+        ShelfRows::given(
+            arguments,
+            clauses,
+            (clauses * LONGEST_CLAUSE as u64).min(ENTRIES),
+        )
+    }
+
+    // The rows that the options give, or else of these lengths.
+    fn given(arguments: &Arguments<'_>, clauses: u64, wanted: u64) -> anyhow::Result<ShelfRows> {
+        let kind = match arguments.value("--shelf") {
+            Some(name) => name.parse()?,
+            None => ShelfKind::default(),
+        };
+        let filed = arguments.number_given("--filed")?;
+        let entries = arguments.number_given("--entries")?;
+        Ok(ShelfRows {
+            kind,
+            clauses: filed.unwrap_or(clauses).min(CLAUSES),
+            entries,
+            wanted,
+        })
     }
 
     // The flat shelf over such rows.
@@ -64,26 +99,5 @@ impl ShelfRows {
         let index = Vec::with_capacity(heap, self.clauses as usize)?;
         let row = Vec::with_capacity(heap, blocks.min(BLOCKS) as usize)?;
         Ok(LinkedShelf::new(index, row))
-    }
-}
-
-fn rows(arguments: &Arguments, clauses: u64, wanted: u64) -> anyhow::Result<ShelfRows> {
-    let kind = kind_of(arguments)?;
-    let filed = arguments.number_given("--filed")?;
-    let entries = arguments.number_given("--entries")?;
-    Ok(ShelfRows {
-        kind,
-        clauses: filed.unwrap_or(clauses).min(CLAUSES),
-        entries,
-        wanted,
-    })
-}
-
-fn kind_of(arguments: &Arguments) -> anyhow::Result<ShelfKind> {
-    match arguments.value("--shelf") {
-        None => Ok(ShelfKind::Flat),
-        Some("flat") => Ok(ShelfKind::Flat),
-        Some("linked") => Ok(ShelfKind::Linked),
-        Some(_) => Err(anyhow!("--shelf takes flat or linked")),
     }
 }

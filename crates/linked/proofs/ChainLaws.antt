@@ -1,55 +1,42 @@
 -- Laws of chains: how often a place stands in them, and what a change of other blocks leaves.
-use Rattle.std.proofs.Common.{◌≡◌, ℕ, zero, suc, ◌+◌, ◌<◌, ◌≤◌, eqb, ltb, List, [], ◌∷◌, ◌++◌, length, get_or, take, sym, refl, ap, ◌∙◌, inl, inr, arith}
-use Rattle.std.proofs.lemmas.Bool.{lt-ltb, le-ltb, eq-eqb, ne_eqb, cond-true, cond-false, cases_lt, cases_eq}
+use Rattle.std.proofs.Common.{◌≡◌, ℕ, zero, suc, ◌+◌, ◌-◌, ◌<◌, ◌≤◌, ◌≢◌, List, [], ◌∷◌, ◌++◌, length, get_or, set, take, refl, ap, ◌∙◌, arith}
+use Rattle.std.proofs.lemmas.List.{get_or-set_other}
+use Rattle.std.proofs.lemmas.Bool.Decides.{nat_tests}
 use Rattle.linked.specs.declared.blocks.Block.{Block}
 use Rattle.linked.specs.declared.blocks.Chain.{Chain}
 use Rattle.linked.specs.Chains.{blocks_for, no_block, four, chain, held, places, clause_of, chains, clauses_of, times, one_below}
 
 pub times_append : (b : ℕ) (l m : List ℕ) → times b (l ++ m) ≡ times b l + times b m
 times_append b [] m = omega arith
-times_append b (x ∷ l) m = let e = times_append b l m in omega arith
+times_append b (x ∷ l) m = omega (arith, times_append b l m)
 
 -- a place in front of a list stands in it
 pub times_first : (b : ℕ) (l : List ℕ) → times b (b ∷ l) ≡ 1 + times b l
-times_first b l = ap (λ n. n + times b l) (cond-true (eqb b b) 1 0 (eq-eqb b b refl))
+times_first b l = grind (arith, nat_tests)
 
-pub times_other : (b x : ℕ) (l : List ℕ) → (b ≡ x → ⊥) → times b (x ∷ l) ≡ times b l
-times_other b x l ne =
-    let e : times b (x ∷ l) ≡ 0 + times b l = ap (λ n. n + times b l) (cond-false (eqb b x) 1 0 (ne_eqb b x ne)) in
-    omega arith
+pub times_other : (b x : ℕ) (l : List ℕ) → b ≢ x → times b (x ∷ l) ≡ times b l
+times_other b x l ne = grind (arith, nat_tests)
 
 pub below_yes : (n b : ℕ) → b < n → one_below n b ≡ 1
-below_yes n b h = cond-true (ltb b n) 1 0 (lt-ltb b n h)
+below_yes n b h = grind (arith, nat_tests)
 
 pub below_no : (n b : ℕ) → n ≤ b → one_below n b ≡ 0
-below_no n b h = cond-false (ltb b n) 1 0 (le-ltb b n h)
+below_no n b h = grind (arith, nat_tests)
 
 -- what is counted among the first n blocks is the place of one of them
 pub below_from : (n b t : ℕ) → t ≤ one_below n b → 1 ≤ t → b < n
-below_from n b t h one = elim (cases_lt b n) [ inl l ↦ l | inr g ↦ absurd (let z = below_no n b g in omega arith) ]
+below_from n b t h one = grind (arith, nat_tests)
 
 pub below_one : (n b : ℕ) → one_below n b ≤ 1
-below_one n b = elim (cases_lt b n) [ inl l ↦ (let z = below_yes n b l in omega arith) | inr g ↦ (let z = below_no n b g in omega arith) ]
+below_one n b = grind (arith, nat_tests)
 
 -- one block more
 pub below_more : (n b : ℕ) (l : List ℕ) → times b (n ∷ l) + one_below n b ≡ times b l + one_below (n + 1) b
-below_more n b l =
-    elim (cases_eq b n) [
-      | inl e ↦
-          (let x : times b (n ∷ l) ≡ 1 + times b l = ap (λ k. times b (k ∷ l)) (sym e) ∙ times_first b l in
-          let y = below_no n b (omega arith) in
-          let z = below_yes (n + 1) b (omega arith) in
-          omega arith)
-      | inr ne ↦ (let x = times_other b n l ne in
-          elim (cases_lt b n) [
-            | inl h ↦ (let y = below_yes n b h in let z = below_yes (n + 1) b (omega arith) in omega arith)
-            | inr h ↦
-                (let g : n < b = elim (cases_lt n b) [ inl k ↦ k | inr k ↦ absurd (ne (omega arith)) ] in
-                let y = below_no n b h in
-                let z = below_no (n + 1) b (omega arith) in
-                omega arith)
-          ])
-    ]
+below_more n b l = grind (arith, nat_tests)
+
+-- a chain is its first block, and the chain that its link begins
+pub chain_first : (blocks : List Block) (m head : ℕ) → 0 < m → chain blocks m head ≡ head ∷ chain blocks (m - 1) (get_or blocks head no_block).next
+chain_first blocks m head h = let e : m ≡ suc (m - 1) = omega arith in ap (λ n. chain blocks n head) e
 
 module _ (old new : List Block) where
   -- a chain is as it was if its blocks are
@@ -85,6 +72,13 @@ module _ (old new : List Block) where
       let one = held_same (blocks_for r.length) r.head (λ b t. same b (let e = times_append b (places old r) (chains old rows) in omega arith)) in
       let rest = clauses_same rows (λ b t. same b (let e = times_append b (places old r) (chains old rows) in omega arith)) in
       ap (λ l. take r.length l ∷ clauses_of new rows) one ∙ ap (λ l. clause_of old r ∷ l) rest
+
+-- and so if a block is written that it does not go through
+pub chain_written : (blocks : List Block) (m head place : ℕ) (x : Block) → times place (chain blocks m head) ≡ 0 → chain (set blocks place x) m head ≡ chain blocks m head
+chain_written blocks m head place x none =
+    chain_same blocks (set blocks place x) m head
+    (λ b t. get_or-set_other blocks place b x no_block
+    (λ e. let again : times b (chain blocks m head) ≡ times place (chain blocks m head) = ap (λ k. times k (chain blocks m head)) e in omega arith))
 
 pub length_chain : (blocks : List Block) (m head : ℕ) → length (chain blocks m head) ≡ m
 length_chain blocks zero head = refl

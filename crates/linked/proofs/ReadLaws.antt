@@ -1,86 +1,98 @@
--- Where the entries of a clause lie.
-use Rattle.std.proofs.Common.{◌≡◌, ℕ, zero, suc, ◌+◌, ◌-◌, ◌*◌, ◌/◌, ◌%◌, ◌<◌, ◌≤◌, List, [], ◌∷◌, ◌++◌, length, get_or, take, drop, set, sym, refl, ap, ◌∙◌, inl, inr, arith}
-use Rattle.std.proofs.lemmas.List.{get_or_append_left, get_or-append_right, get_or-take, length-append, length-take, length-take-le, take_more, drop_more, set_at, append_assoc, get_or_read_under}
-use Rattle.std.proofs.lemmas.Bool.{cases_lt}
+-- What is read along the chain of a clause.
+use Rattle.std.proofs.Common.{◌≡◌, ℕ, zero, suc, ◌+◌, ◌-◌, ◌*◌, ◌/◌, ◌%◌, ◌<◌, ◌≤◌, List, [], ◌∷◌, ◌++◌, length, get_or, take, drop, set, sym, refl, ap, ◌∙◌, append_assoc, arith}
+use Rattle.std.proofs.lemmas.List.{get_or-take, get_or-drop, drop-drop, take_more, drop_more, set_at, length-append, length-take, length-take-le}
 use Rattle.clauses.specs.declared.entry.Entry.{Entry}
 use Rattle.engine.specs.Shelves.{no_entry}
 use Rattle.linked.specs.declared.blocks.Block.{Block}
 use Rattle.linked.specs.declared.blocks.Chain.{Chain}
 use Rattle.linked.specs.declared.pool.Pool.{Pool}
-use Rattle.linked.specs.Moves.{blocks_of, touched, Within}
-use Rattle.linked.specs.Chains.{blocks_for, no_block, four, chain, held, hop, places, clause_of, times}
-use Rattle.linked.proofs.ChainLaws.{times_first, below_from}
+use Rattle.linked.specs.Moves.{blocks_of, touched, block_at, Within}
+use Rattle.linked.specs.Chains.{blocks_for, no_block, four, chain, held, places, clause_of, times}
+use Rattle.linked.proofs.ChainLaws.{times_first, below_from, chain_first}
 
-module _ (blocks : List Block) where
-  -- a link more at the front of a way
-  hop_front : (head k : ℕ) → hop blocks (get_or blocks head no_block).next k ≡ hop blocks head (suc k)
-  hop_front head zero = refl
-  hop_front head (suc k) = ap (λ b. (get_or blocks b no_block).next) (hop_front head k)
+length_held : (blocks : List Block) (m head : ℕ) → length (held blocks m head) ≡ 4 * m
+length_held blocks zero head = refl
+length_held blocks (suc m) head =
+    let x = get_or blocks head no_block in
+    let e = length-append (four x) (held blocks m x.next) in
+    let rest = length_held blocks m x.next in
+    omega arith
 
-  -- the links of a chain lead to its blocks
-  hop_in : (m head k : ℕ) → k < m → 1 ≤ times (hop blocks head k) (chain blocks m head)
-  hop_in zero head k h = absurd (omega arith)
-  hop_in (suc m) head zero h =
-      let first = times_first head (chain blocks m (get_or blocks head no_block).next) in
-      omega arith
-  hop_in (suc m) head (suc k) h =
-      let next = (get_or blocks head no_block).next in
-      let rest = hop_in m next k (omega arith) in
-      let e : times (hop blocks next k) (chain blocks m next) ≡ times (hop blocks head (suc k)) (chain blocks m next) = ap (λ b. times b (chain blocks m next)) (hop_front head k) in
-      omega arith
+pub length_clause : (blocks : List Block) (r : Chain) → length (clause_of blocks r) ≡ r.length
+length_clause blocks r =
+    let long = length_held blocks (blocks_for r.length) r.head in
+    length-take-le r.length (held blocks (blocks_for r.length) r.head) (omega arith)
 
-  four_at : (x : Block) (k : ℕ) → k < 4 → get_or (four x) k no_entry ≡ get_or x.entries k no_entry
-  four_at x zero h = refl
-  four_at x (suc zero) h = refl
-  four_at x (suc (suc zero)) h = refl
-  four_at x (suc (suc (suc zero))) h = refl
-  four_at x (suc (suc (suc (suc k)))) h = absurd (omega arith)
+-- k links along the chain of a clause, `place` begins what is left of it
+pub record Reading (p : Pool) (r : Chain) (k place : ℕ) : Type 0 where
+  pub entries : drop (4 * k) (held (blocks_of p) (blocks_for r.length) r.head) ≡ held (blocks_of p) (blocks_for r.length - k) place
+  pub among : (b : ℕ) → times b (chain (blocks_of p) (blocks_for r.length - k) place) ≤ times b (places (blocks_of p) r)
 
-  -- where the entry i of a chain lies
-  held_at : (m head i : ℕ) → i < 4 * m → get_or (held blocks m head) i no_entry ≡ get_or (get_or blocks (hop blocks head (i / 4)) no_block).entries (i % 4) no_entry
-  held_at zero head i h = absurd (omega arith)
-  held_at (suc m) head i h =
-      let x = get_or blocks head no_block in
-      elim (cases_lt i 4) [
-        | inl low ↦
-            (let q : 0 ≡ i / 4 = omega arith in
-            let r : i ≡ i % 4 = omega arith in
-            get_or_append_left (four x) (held blocks m x.next) no_entry i low
-            ∙ four_at x i low
-            ∙ ap (λ k. get_or (get_or blocks (hop blocks head k) no_block).entries i no_entry) q
-            ∙ ap (λ k. get_or (get_or blocks (hop blocks head (i / 4)) no_block).entries k no_entry) r)
-        | inr high ↦
-            (let q : suc ((i - 4) / 4) ≡ i / 4 = omega arith in
-            let r : (i - 4) % 4 ≡ i % 4 = omega arith in
-            get_or-append_right (four x) (held blocks m x.next) 4 i no_entry refl high
-            ∙ held_at m x.next (i - 4) (omega arith)
-            ∙ ap (λ b. get_or (get_or blocks b no_block).entries ((i - 4) % 4) no_entry) (hop_front head ((i - 4) / 4))
-            ∙ ap (λ k. get_or (get_or blocks (hop blocks head k) no_block).entries ((i - 4) % 4) no_entry) q
-            ∙ ap (λ k. get_or (get_or blocks (hop blocks head (i / 4)) no_block).entries k no_entry) r)
-      ]
+pub reading_none : (p : Pool) (r : Chain) → Reading p r 0 r.head
+reading_none p r =
+    let all : blocks_for r.length - 0 ≡ blocks_for r.length = omega arith in
+    record {
+      entries = ap (λ n. held (blocks_of p) n r.head) (sym all);
+      among = λ b. let same = ap (λ n. times b (chain (blocks_of p) n r.head)) all in omega arith;
+    }
 
-  length_held : (m head : ℕ) → length (held blocks m head) ≡ 4 * m
-  length_held zero head = refl
-  length_held (suc m) head =
-      let x = get_or blocks head no_block in
-      let e = length-append (four x) (held blocks m x.next) in
-      let rest = length_held m x.next in
-      omega arith
+module _ (p : Pool) (r : Chain) (k place : ℕ) (is : Reading p r k place) (more : 4 * k < r.length) where
+  abbrev left : ℕ
+  left = blocks_for r.length - k
 
-  pub length_clause : (r : Chain) → length (clause_of blocks r) ≡ r.length
-  length_clause r =
-      let long = length_held (blocks_for r.length) r.head in
-      length-take-le r.length (held blocks (blocks_for r.length) r.head) (omega arith)
+  -- the block there is one of the pool
+  pub reading_below : Within p r → place < touched p
+  reading_below within =
+      let first = ap (times place) (chain_first (blocks_of p) left place (omega arith)) in
+      let one = times_first place (chain (blocks_of p) (left - 1) (block_at p place).next) in
+      let among = is.among place in
+      below_from (touched p) place (times place (places (blocks_of p) r)) (within place) (omega arith)
 
-  -- where the entry i of a clause lies, and that its block is one of the clause's
-  pub clause_entry : (r : Chain) (i : ℕ) → i < r.length → get_or (get_or blocks (hop blocks r.head (i / 4)) no_block).entries (i % 4) no_entry ≡ get_or (clause_of blocks r) i no_entry
-  clause_entry r i h =
-      sym
-      (get_or-take r.length (held blocks (blocks_for r.length) r.head) i no_entry h
-      ∙ held_at (blocks_for r.length) r.head i (omega arith))
+  -- it has the next four entries
+  pub reading_block : drop (4 * k) (held (blocks_of p) (blocks_for r.length) r.head) ≡ four (block_at p place) ++ held (blocks_of p) (left - 1) (block_at p place).next
+  reading_block =
+      let e : left ≡ suc (left - 1) = omega arith in
+      is.entries ∙ ap (λ n. held (blocks_of p) n place) e
 
-  pub clause_place : (r : Chain) (k : ℕ) → 4 * k < r.length → 1 ≤ times (hop blocks r.head k) (places blocks r)
-  clause_place r k h = hop_in (blocks_for r.length) r.head k (omega arith)
+  -- its link leads on
+  pub reading_next : (n next : ℕ) → n ≡ k + 1 → next ≡ (block_at p place).next → Reading p r n next
+  reading_next n next e at =
+      let fewer : left - 1 ≡ blocks_for r.length - n = omega arith in
+      let on : 4 * n ≡ 4 * k + 4 = omega arith in
+      record {
+        entries =
+            ap (λ i. drop i (held (blocks_of p) (blocks_for r.length) r.head)) on
+            ∙ sym (drop-drop 4 (4 * k) (held (blocks_of p) (blocks_for r.length) r.head))
+            ∙ ap (drop 4) reading_block
+            ∙ ap (λ m. held (blocks_of p) m (block_at p place).next) fewer
+            ∙ ap (held (blocks_of p) (blocks_for r.length - n)) (sym at);
+        among = λ b.
+            let first = ap (times b) (chain_first (blocks_of p) left place (omega arith)) in
+            let rest : times b (chain (blocks_of p) (blocks_for r.length - n) next) ≡ times b (chain (blocks_of p) (left - 1) (block_at p place).next) = cc in
+            let among = is.among b in
+            omega arith;
+      }
+
+four_at : (c l : List Entry) (j : ℕ) → j < 4 → get_or (four (record { entries = c; next = 0 }) ++ l) j no_entry ≡ get_or c j no_entry
+four_at c l zero h = refl
+four_at c l (suc zero) h = refl
+four_at c l (suc (suc zero)) h = refl
+four_at c l (suc (suc (suc zero))) h = refl
+four_at c l (suc (suc (suc (suc j)))) h = absurd (omega arith)
+
+-- the entry i of a clause
+pub read_entry : (p : Pool) (r : Chain) (i k place : ℕ) → Reading p r k place → k ≡ i / 4 → i < r.length → get_or (block_at p place).entries (i % 4) no_entry ≡ get_or (clause_of (blocks_of p) r) i no_entry
+read_entry p r i k place is e h =
+    let all = held (blocks_of p) (blocks_for r.length) r.head in
+    let x = block_at p place in
+    let later = held (blocks_of p) (blocks_for r.length - k - 1) x.next in
+    let there : 4 * k + i % 4 ≡ i = omega arith in
+    sym
+    (get_or-take r.length all i no_entry h
+    ∙ ap (λ n. get_or all n no_entry) (sym there)
+    ∙ sym (get_or-drop (4 * k) all (i % 4) no_entry)
+    ∙ ap (λ l. get_or l (i % 4) no_entry) (reading_block p r k place is (omega arith))
+    ∙ four_at x.entries later (i % 4) (omega arith))
 
 -- one entry more of a list is written to the front of a row
 pub copy_more : (c row : List Entry) (k : ℕ) (x : Entry) → k < length c → k < length row → x ≡ get_or c k no_entry → set (take k c ++ drop k row) k x ≡ take (k + 1) c ++ drop (k + 1) row
@@ -91,25 +103,3 @@ copy_more c row k x h g e =
     ∙ ap (λ y. take k c ++ y ∷ drop (k + 1) row) e
     ∙ sym (append_assoc (take k c) (get_or c k no_entry ∷ []) (drop (k + 1) row))
     ∙ ap (λ l. l ++ drop (k + 1) row) (sym (take_more c k no_entry h))
-
--- the block that k links lead to is one of the pool, if the clause has entries there
-pub place_below : (p : Pool) (r : Chain) → Within p r → (k place : ℕ) → 4 * k < r.length → place ≡ hop (blocks_of p) r.head k → place < touched p
-place_below p r within k place h at =
-    let blocks = blocks_of p in
-    let one : times place (places blocks r) ≡ times (hop blocks r.head k) (places blocks r) = ap (λ b. times b (places blocks r)) at in
-    let some = clause_place blocks r k h in
-    below_from (touched p) place (times place (places blocks r)) (within place) (omega arith)
-
--- the link of that block leads one block on
-pub next_place : (blocks : List Block) (head k n place next : ℕ) → n ≡ k + 1 → place ≡ hop blocks head k → next ≡ (get_or blocks place no_block).next → next ≡ hop blocks head n
-next_place blocks head k n place next e at is =
-    let more : suc k ≡ n = omega arith in
-    is ∙ ap (λ b. (get_or blocks b no_block).next) at ∙ ap (λ m. hop blocks head m) more
-
--- the entry that is read there
-pub read_entry : (p : Pool) (r : Chain) (i k place : ℕ) (x : Block) → i < r.length → k ≡ i / 4 → place ≡ hop (blocks_of p) r.head k → x ≡ get_or (blocks_of p) place x → place < touched p → get_or x.entries (i % 4) no_entry ≡ get_or (clause_of (blocks_of p) r) i no_entry
-read_entry p r i k place x h e at read below =
-    let blocks = blocks_of p in
-    ap (λ (y : Block). get_or y.entries (i % 4) no_entry) (get_or_read_under blocks place (touched p) x no_block read below p.blocks.ok.0)
-    ∙ ap (λ b. get_or (get_or blocks b no_block).entries (i % 4) no_entry) (at ∙ ap (λ n. hop blocks r.head n) e)
-    ∙ clause_entry blocks r i h

@@ -1,22 +1,24 @@
 -- Laws of the linked shelf: a clause is filed, and the last is taken off.
-use Rattle.std.proofs.Common.{◌≡◌, ℕ, ◌+◌, ◌<◌, ◌≤◌, List, [], ◌∷◌, ◌++◌, length, get_or, ap, ◌∙◌, arith}
+use Rattle.std.proofs.Common.{◌≡◌, ℕ, ◌+◌, ◌≤◌, List, [], ◌∷◌, ◌++◌, length, get_or, ap, ◌∙◌, inl, inr, arith}
+use Rattle.std.proofs.lemmas.List.{get_or_past}
+use Rattle.std.proofs.lemmas.Bool.{cases_lt}
 use Rattle.clauses.specs.declared.entry.Entry.{Entry}
 use Rattle.engine.specs.Shelves.{entries_in}
 use Rattle.linked.specs.declared.blocks.Chain.{Chain}
 use Rattle.linked.specs.declared.pool.Pool.{Pool}
 use Rattle.linked.specs.Chains.{blocks_for, places, clause_of, chains, clauses_of, times, one_below}
-use Rattle.linked.specs.Moves.{blocks_of, touched, block_at, spares, Sound, Taken, Returned, Within}
+use Rattle.linked.specs.Moves.{blocks_of, touched, block_at, spares, Taken, Returned, Within}
 use Rattle.linked.proofs.ChainLaws.{below_one, below_from, chains_same, clauses_same, length_chain}
 use Rattle.linked.proofs.ReadLaws.{length_clause}
 use Rattle.linked.proofs.IndexLaws.{entries_push, clauses_all, times_all, length_all, times_one}
 
 -- what holds of the blocks of a shelf: each is in one chain, and once
 module _ (p : Pool) (rows : List Chain) (apart : (b : ℕ) → times b (chains (blocks_of p) rows) + times b (spares p) ≡ one_below (touched p) b) where
-  pub shelf_sound : touched p ≤ 4750000 → Sound p
-  shelf_sound small = record { small = small; once = λ b. let a = apart b in omega arith }
-
-  pub shelf_within : (k : ℕ) (d : Chain) → k < length rows → Within p (get_or rows k d)
-  shelf_within k d h b = let a = apart b in let one = times_one (blocks_of p) b rows k d h in omega arith
+  pub shelf_within : (k : ℕ) → Within p (get_or rows k (record { head = 0; length = 0 }))
+  shelf_within k b = let d : Chain = record { head = 0; length = 0 } in elim (cases_lt k (length rows)) [
+    | inl h ↦ (let a = apart b in let one = times_one (blocks_of p) b rows k d h in omega arith)
+    | inr h ↦ (let none : times b (places (blocks_of p) (get_or rows k d)) ≡ 0 = ap (λ r. times b (places (blocks_of p) r)) (get_or_past rows k d h) in omega arith)
+  ]
 
   -- a clause c is filed, in the blocks of the chain r
   module _ (q : Pool) (c : List Entry) (r : Chain) (all : List Chain) (items : all ≡ rows ++ r ∷ []) (taken : Taken (places (blocks_of q) r) p q) (is : clause_of (blocks_of q) r ≡ c) where

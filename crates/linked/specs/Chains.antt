@@ -1,5 +1,6 @@
 -- Chains of blocks, and the clauses that they hold.
-use Rattle.std.specs.Prelude.{ℕ, zero, suc, ◌+◌, ◌/◌, cond, List, [], ◌∷◌, ◌++◌, get_or, take, ◌==◌, nat_lt, slice_index_or}
+use Rattle.std.specs.Prelude.{ℕ, zero, suc, ◌+◌, ◌/◌, cond, List, [], ◌∷◌, ◌++◌, map, take, ◌==◌, nat_lt, slice_index_or}
+use Rattle.std.specs.List.{flat_map}
 use Rattle.clauses.specs.declared.entry.Entry.{Entry}
 use Rattle.engine.specs.Shelves.{no_entry}
 use Rattle.linked.specs.declared.blocks.Block.{Block}
@@ -13,28 +14,23 @@ blocks_for n = (n + 3) / 4
 abbrev pub no_block : Block
 no_block = record { entries = []; next = 0 }
 
+-- the first four entries of a list; no entry where it has fewer
+abbrev pub first_four : List Entry → List Entry
+first_four c = slice_index_or c 0 no_entry ∷ slice_index_or c 1 no_entry ∷ slice_index_or c 2 no_entry ∷ slice_index_or c 3 no_entry ∷ []
+
 -- the four entries of a block
 abbrev pub four : Block → List Entry
-four x = slice_index_or x.entries 0 no_entry ∷ slice_index_or x.entries 1 no_entry ∷ slice_index_or x.entries 2 no_entry ∷ slice_index_or x.entries 3 no_entry ∷ []
-
--- the four entries of a list from a place on
-abbrev pub four_from : List Entry → ℕ → List Entry
-four_from c i = slice_index_or c i no_entry ∷ slice_index_or c (i + 1) no_entry ∷ slice_index_or c (i + 2) no_entry ∷ slice_index_or c (i + 3) no_entry ∷ []
+four x = first_four x.entries
 
 -- the places of so many blocks along a chain
 abbrev pub chain : List Block → ℕ → ℕ → List ℕ
 chain blocks zero head = []
-chain blocks (suc m) head = head ∷ chain blocks m (get_or blocks head no_block).next
+chain blocks (suc m) head = head ∷ chain blocks m (slice_index_or blocks head no_block).next
 
 -- the entries of so many blocks along a chain
 abbrev pub held : List Block → ℕ → ℕ → List Entry
 held blocks zero head = []
-held blocks (suc m) head = four (slice_index_or blocks head no_block) ++ held blocks m (get_or blocks head no_block).next
-
--- the place that so many links lead to
-abbrev pub hop : List Block → ℕ → ℕ → ℕ
-hop blocks head zero = head
-hop blocks head (suc k) = (get_or blocks (hop blocks head k) no_block).next
+held blocks (suc m) head = four (slice_index_or blocks head no_block) ++ held blocks m (slice_index_or blocks head no_block).next
 
 -- the places of a clause's blocks
 abbrev pub places : List Block → Chain → List ℕ
@@ -46,13 +42,11 @@ clause_of blocks r = take r.length (held blocks (blocks_for r.length) r.head)
 
 -- the places of the blocks of all clauses
 abbrev pub chains : List Block → List Chain → List ℕ
-chains blocks [] = []
-chains blocks (r ∷ rows) = places blocks r ++ chains blocks rows
+chains blocks rows = flat_map (places blocks) rows
 
 -- the clauses
 abbrev pub clauses_of : List Block → List Chain → List (List Entry)
-clauses_of blocks [] = []
-clauses_of blocks (r ∷ rows) = clause_of blocks r ∷ clauses_of blocks rows
+clauses_of blocks rows = map (clause_of blocks) rows
 
 -- how often a place stands in a list
 abbrev pub times : ℕ → List ℕ → ℕ

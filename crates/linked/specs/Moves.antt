@@ -21,14 +21,8 @@ touched p = vec_len p.blocks
 abbrev pub spares : Pool → List ℕ
 spares p = chain (blocks_of p) p.spare p.free
 
--- there are few enough blocks for their places to be numbers, and no free block is listed twice
-pub record Sound (p : Pool) : Type 0 where
-  pub small : touched p ≤ 4750000
-  pub once : (b : ℕ) → times b (spares p) ≤ one_below (touched p) b
-
 -- from p to q the blocks l were taken: from the free list, or never used before
 pub record Taken (l : List ℕ) (p q : Pool) : Type 0 where
-  pub sound : Sound q
   pub kept : (b : ℕ) → b < touched p → times b (spares p) ≡ 0 → block_at q b ≡ block_at p b
   pub moved : (b : ℕ) → times b l + times b (spares q) + one_below (touched p) b ≡ times b (spares p) + one_below (touched q) b
   pub size : touched q + p.spare ≡ touched p + q.spare + length l
@@ -36,7 +30,6 @@ pub record Taken (l : List ℕ) (p q : Pool) : Type 0 where
 
 -- from p to q the blocks l were put on the free list
 pub record Returned (l : List ℕ) (p q : Pool) : Type 0 where
-  pub sound : Sound q
   pub kept : (b : ℕ) → times b l ≡ 0 → block_at q b ≡ block_at p b
   pub moved : (b : ℕ) → times b (spares q) ≡ times b l + times b (spares p)
   pub long : touched q ≡ touched p

@@ -5,11 +5,11 @@ ghost use Rattle.linked.specs.Chains.{clause_of, clauses_of, chains, times, one_
 ghost use Rattle.linked.specs.Moves.{blocks_of, touched, spares, Within};
 ghost use Rattle.linked.specs.Fits.{linked_fits};
 
-use super::blocks::{Block, Chain};
+use super::blocks::{Block, Chain, MOST_BLOCKS};
 use super::pool::Pool;
-use base::values::ValueWord;
 use clauses::entry::Entry;
 use engine::shelf::Shelf;
+use shelves::{MOST_CLAUSES, MOST_ENTRIES};
 
 // The rows grow within the capacity that they were given.
 #[derive(Drop)]
@@ -20,9 +20,12 @@ pub struct LinkedShelf {
     clauses: u32,
     width: u32,
     filled: u32,
-    ghost limits: { (clauses ≤ 1000000) × (width ≤ 16000000) },
-    ghost room: { (clauses ≤ vec_capacity index) × (width ≤ 4 * vec_capacity pool.blocks - 3 * clauses) },
-    ghost within: { (vec_len index ≤ clauses) × (filled ≤ width) × (touched pool ≤ 4750000) },
+    ghost few: { clauses ≤ 1000000 },
+    ghost narrow: { width ≤ 16000000 },
+    ghost clause_room: { clauses ≤ vec_capacity index },
+    ghost entry_room: { width ≤ 4 * vec_capacity pool.blocks - 3 * clauses },
+    ghost clauses_within: { vec_len index ≤ clauses },
+    ghost entries_within: { filled ≤ width },
     ghost sum: { filled ≡ entries_in (clauses_of (blocks_of pool) index.items) },
     // Each block that was ever used is in one chain, and once: in a clause's, or in the list of free blocks.
     ghost apart: { (b : ℕ) → times b (chains (blocks_of pool) index.items) + times b (spares pool) ≡ one_below (touched pool) b },
@@ -37,11 +40,11 @@ impl LinkedShelf {
         ensures clauses { result.clauses ≡ min (vec_capacity index) 1000000 }
         ensures width { result.width ≡ min (4 * vec_capacity blocks - 3 * min (vec_capacity index) 1000000) 16000000 }
     {
-        index.truncate(0);
-        blocks.truncate(0);
-        let clauses = index.capacity().min(1_000_000) as u32;
-        let places = blocks.capacity().min(4_750_000) as u32;
-        let width = (4 * places).saturating_sub(3 * clauses).min(16_000_000);
+        index.clear();
+        blocks.clear();
+        let clauses = index.capacity().min(MOST_CLAUSES);
+        let places = blocks.capacity().min(MOST_BLOCKS);
+        let width = (4 * places).saturating_sub(3 * clauses).min(MOST_ENTRIES);
         let pool = Pool {
             blocks,
             free: 0,
@@ -50,34 +53,22 @@ impl LinkedShelf {
         LinkedShelf {
             index,
             pool,
-            clauses,
-            width,
+            clauses: clauses as u32,
+            width: width as u32,
             filled: 0,
         }
     }
 
-    // Where a clause is kept; a chain with no entries where there is no such clause.
+    // Where a clause is kept; a chain with no entries where there is no such clause. That its blocks
+    // lie in the pool is asked by `entry` and `copy` alone, and a chain knows no pool, so it is no ghost field of one.
     fn find(&self, number: u32) -> Chain
         ensures is { clause_of (blocks_of self.now.pool) result ≡ clause_at (clauses_of (blocks_of self.now.pool) self.now.index.items) number }
         ensures within { Within self.now.pool result }
     {
-        let n = number as usize;
-        let count = self.index.len();
-        if n == 0 || n > count {
-            return Chain { head: 0, length: 0 };
-        }
-        self.index[n - 1]
-    }
-
-    // Takes the last clause off, and gives its blocks back.
-    fn take_last(&mut self)
-        ensures len { vec_len self.new.index ≡ vec_len self.old.index - 1 }
-        ensures same { (self.new.clauses ≡ self.old.clauses) × (self.new.width ≡ self.old.width) }
-    {
-        if let Some(last) = self.index.pop() {
-            self.pool.release(last);
-            self.filled -= last.length;
-        }
+        let Some(at) = (number as usize).checked_sub(1) else {
+            return Chain::default();
+        };
+        self.index.get(at).copied().unwrap_or_default()
     }
 }
 
@@ -88,11 +79,12 @@ impl Shelf for LinkedShelf {
 
     ghost W = { λ s. s.width };
 
-    ghost fits = { λ s. linked_fits (blocks_of s.pool) s.index.items s.clauses s.width (vec_len s.index) s.filled s.index.ok.0 s.sum s.limits s.within.0 s.within.1 };
+    ghost fits = { λ s. linked_fits (blocks_of s.pool) s.index.items s.clauses s.width (vec_len s.index) s.filled s.index.ok.0 s.sum s.few s.narrow s.clauses_within s.entries_within };
 
     fn clear(&mut self) {
-        while self.index.len() > 0 {
-            self.take_last();
+        while let Some(last) = self.index.pop() {
+            self.pool.release(last);
+            self.filled -= last.length;
         }
     }
 
@@ -122,10 +114,7 @@ impl Shelf for LinkedShelf {
         if index < found.length {
             return self.pool.entry(found, index);
         }
-        Entry {
-            code: 0,
-            values: ValueWord { bits: 0 },
-        }
+        Entry::default()
     }
 
     fn copy(&self, number: u32, row: &mut [Entry]) -> usize {

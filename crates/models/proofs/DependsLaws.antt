@@ -16,7 +16,7 @@ use Rattle.reach.specs.Reach.Leads.{here, left, right}
 use Rattle.spelling.specs.CircuitGrammar.{Aig, wires_of, LawfulCircuit}
 use Rattle.spelling.specs.Dqbf.{Declaration, universal, existential, variable_of, Dqbf, Distinct, Lawful, existentials_of, record_of}
 use Rattle.spelling.proofs.PrefixLaws.{variables_of, distinct_next, record_new}
-use Rattle.audit.proofs.FormulaOwners.{is_existential}
+use Rattle.formula.specs.Groups.{is_existential}
 use Rattle.audit.proofs.FormulaPlaces.{existential_place}
 use Rattle.models.specs.CircuitValues.{Inputs, wire_value, gate_values, output_at, output_value, inputs_by, circuit_functions, ReadsAllowed}
 use Rattle.models.specs.Models.{signed, DependsOnAllowed}

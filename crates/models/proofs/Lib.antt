@@ -1,4 +1,3 @@
-pub mod ClauseLookup
 pub mod HeldLaws
 pub mod ValueLaws
 pub mod GateLaws

@@ -5,9 +5,8 @@ use Rattle.std.proofs.lemmas.Bool.{both_ways, cases_Bool, cond-true, cond-false,
 use Rattle.base.specs.Words.{empty_word}
 use Rattle.formula.specs.declared.tables.Kind.TheVariants as kind
 use Rattle.formula.specs.declared.tables.Variable.{Variable}
-use Rattle.formula.specs.Groups.{is_universal}
+use Rattle.formula.specs.Groups.{is_universal, is_existential}
 use Rattle.spelling.specs.Dqbf.{Declaration, universal, existential, record_from, record_of}
-use Rattle.audit.proofs.FormulaOwners.{is_existential}
 use Rattle.models.specs.Models.{Assignment, Functions, value_of}
 
 module _ (F : Functions) (σ : Assignment) (v : ℕ) where

@@ -4,7 +4,7 @@ use Rattle.std.proofs.lemmas.List.{at_drop_more, get_or-take, get_or_push, lengt
 use Rattle.std.proofs.lemmas.Bool.{cases_lt, cond-true, le-leb}
 use Rattle.base.specs.declared.values.ValueWord.{ValueWord}
 use Rattle.base.specs.Words.{empty_word, single_word, union_word}
-use Rattle.words.proofs.TableLaws.{padded_is}
+use Rattle.words.proofs.TableLaws.{padded_is, get_or_padded}
 use Rattle.circuit.specs.declared.tables.Gate.{Gate}
 use Rattle.circuit.specs.Reading.{no_gate}
 use Rattle.reach.specs.Reach.{wire_reach, reaches_from}
@@ -13,19 +13,9 @@ use Rattle.reach.specs.Reach.{wire_reach, reaches_from}
 abbrev pub gate_union : ℕ → List ValueWord → Gate → ValueWord
 gate_union i done g = union_word (wire_reach i done (g.left / 2)) (wire_reach i done (g.right / 2))
 
--- zeros behind a table change no read of it
-get_or_zeros : (m k : ℕ) → get_or (replicate m empty_word) k empty_word ≡ empty_word
-get_or_zeros zero k = refl
-get_or_zeros (suc m) zero = refl
-get_or_zeros (suc m) (suc k) = get_or_zeros m k
-
-get_or_padded : (xs : List ValueWord) (m k : ℕ) → get_or (xs ++ replicate m empty_word) k empty_word ≡ get_or xs k empty_word
-get_or_padded [] m k = get_or_zeros m k
-get_or_padded (x ∷ xs) m zero = refl
-get_or_padded (x ∷ xs) m (suc k) = get_or_padded xs m k
-
+-- zeros behind a table change no reach
 pub reach_padded : (i : ℕ) (xs : List ValueWord) (m w : ℕ) → wire_reach i (xs ++ replicate m empty_word) w ≡ wire_reach i xs w
-reach_padded i xs m w = ap (cond (leb w i) (single_word w)) (get_or_padded xs m (w - i - 1))
+reach_padded i xs m w = ap (cond (leb w i) (single_word w)) (get_or_padded empty_word xs m (w - i - 1))
 
 -- a wire below gate n reads nothing from entry n on
 pub reach_front : (i : ℕ) (xs : List ValueWord) (n w : ℕ) → w < i + 1 + n → wire_reach i (take n xs) w ≡ wire_reach i xs w

@@ -1,5 +1,5 @@
 -- The reach of a wire, and the paths of gates that it stands for.
-use Rattle.std.specs.Prelude.{◌≡◌, ℕ, ◌+◌, ◌-◌, ◌*◌, ◌/◌, ◌<◌, ◌≤◌, Bool, true, cond, ◌&&◌, List, [], ◌∷◌, ◌++◌, length, get_or, take, replicate, Decides, nat_le, slice_index_or}
+use Rattle.std.specs.Prelude.{◌≡◌, ℕ, ◌+◌, ◌-◌, ◌*◌, ◌/◌, ◌<◌, ◌≤◌, Bool, true, cond, ◌&&◌, List, [], ◌∷◌, ◌++◌, length, take, replicate, Decides, nat_le, slice_index_or}
 use Rattle.base.specs.declared.values.ValueWord.{ValueWord}
 use Rattle.base.specs.Words.{empty_word, single_word, union_word, has_bit}
 use Rattle.circuit.specs.declared.tables.CircuitHead.{CircuitHead}
@@ -28,14 +28,14 @@ reaches_table head gates room =
 -- A path of gates from a wire down to a wire: each step goes from a gate to one of its two right wires.
 pub data Leads (i : ℕ) (gates : List Gate) : ℕ → ℕ → Type 0 where
   here : {w : ℕ} → Leads i gates w w
-  left : {g w : ℕ} → g < length gates → Leads i gates ((get_or gates g no_gate).left / 2) w → Leads i gates (i + 1 + g) w
-  right : {g w : ℕ} → g < length gates → Leads i gates ((get_or gates g no_gate).right / 2) w → Leads i gates (i + 1 + g) w
+  left : {g w : ℕ} → g < length gates → Leads i gates ((slice_index_or gates g no_gate).left / 2) w → Leads i gates (i + 1 + g) w
+  right : {g w : ℕ} → g < length gates → Leads i gates ((slice_index_or gates g no_gate).right / 2) w → Leads i gates (i + 1 + g) w
 
 -- each gate's right literals are smaller than its own literal
 abbrev pub Ordered : ℕ → List Gate → Type 0
 Ordered i gates =
     (g : ℕ) → g < length gates →
-    ((get_or gates g no_gate).left < 2 * (i + 1 + g)) × ((get_or gates g no_gate).right < 2 * (i + 1 + g))
+    ((slice_index_or gates g no_gate).left < 2 * (i + 1 + g)) × ((slice_index_or gates g no_gate).right < 2 * (i + 1 + g))
 
 -- Of an ordered circuit with at most 64 inputs, each wire's reach has input k exactly if a path of gates leads to it.
 abbrev pub Paths : CircuitHead → List Gate → List ValueWord → Type 0

@@ -14,11 +14,10 @@ pub fn wire_reach(inputs: u32, reaches: &[ValueWord], wire: u32) -> ValueWord
     if wire <= inputs {
         return ValueWord::single(wire);
     }
-    let gate = (wire - inputs - 1) as usize;
-    if gate >= reaches.len() {
-        return ValueWord::empty();
-    }
-    reaches[gate]
+    reaches
+        .get((wire - inputs - 1) as usize)
+        .copied()
+        .unwrap_or(ValueWord::empty())
 }
 
 // Writes the reach of each gate, zero behind them; where either table is shorter than the gates, all zero and false.
@@ -32,9 +31,10 @@ pub fn fill_reaches(head: CircuitHead, gates: &[Gate], reaches: &mut [ValueWord]
     if count > gates.len() || count > reaches.len() {
         return false;
     }
-    for g in 0..count {
-        let left = wire_reach(head.inputs, reaches, gates[g].left / 2);
-        let right = wire_reach(head.inputs, reaches, gates[g].right / 2);
+    // An index: row g is worked out from the rows before it.
+    for (g, gate) in gates[..count].iter().enumerate() {
+        let left = wire_reach(head.inputs, reaches, gate.left / 2);
+        let right = wire_reach(head.inputs, reaches, gate.right / 2);
         reaches[g] = left.union(right);
     }
     true

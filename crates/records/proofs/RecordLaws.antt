@@ -1,85 +1,43 @@
 -- Records of steps: a step's record reads as the step, whatever stands behind it.
-use Rattle.std.proofs.Common.{◌≡◌, ℕ, ◌+◌, ◌-◌, ◌≤◌, true, leb, List, ◌++◌, length, get_or, take, drop, Some, None, Ok, Err, Option, sym, refl, ap, ◌∙◌, ⊎_elim, arith, length-append}
+use Rattle.std.proofs.Common.{◌≡◌, ℕ, ◌-◌, ◌≤◌, true, leb, List, ◌∷◌, ◌++◌, length, get_or, take, drop, Some, None, Ok, Option, sym, refl, ap, ◌∙◌, ⊎_elim, arith, length-append}
 use Rattle.std.proofs.lemmas.List.{drop_at, take_rest}
 use Rattle.std.proofs.lemmas.Bool.{cases_Bool, le-leb}
 use Rattle.std.proofs.lemmas.Bool.Decides.{nat_tests}
-use Rattle.base.specs.declared.values.ValueWord.{ValueWord}
-use Rattle.base.specs.Causes.{Refusal}
+use Rattle.std.proofs.lemmas.Nat.{from_be_bytes-to_be_bytes_2, from_be_bytes-to_be_bytes_4, from_be_bytes-to_be_bytes_8}
 use Rattle.records.specs.declared.step.Premise.TheVariants.{Truth, Falsity}
 use Rattle.records.specs.declared.step.Step.{Step}
 use Rattle.records.specs.declared.step.Step.TheVariants.{Resolve, Settle}
 use Rattle.records.specs.declared.step.Step.TheVariants as step
-use Rattle.records.specs.Bytes.{bytes_of}
-use Rattle.records.specs.Records.{Fits, Reads, ReadsBack, begins, record_of, step_from, rest_from, put_front, put_count, Writes}
-use Rattle.records.proofs.ByteLaws.{number_of_bytes, elements, split_at}
+use Rattle.records.specs.Records.{Fits, ReadsBack, begins, record_of, step_from, rest_from, written_count, written_into}
+use Rattle.records.proofs.ByteLaws.{elements, split_at}
 
 -- there is room for n bytes where n bytes stand
 room : (n : ℕ) (front behind : List ℕ) → length front ≡ n → leb n (length (front ++ behind)) ≡ true
 room n front behind e = le-leb n (length (front ++ behind)) (omega (arith, length-append front behind))
 
 -- the record of a step, with any bytes behind it, reads as the step
-pub step_reads : (s : Step) (behind : List ℕ) → Fits s → step_from (record_of s ++ behind) ≡ Ok s
+step_reads : (s : Step) (behind : List ℕ) → Fits s → step_from (record_of s ++ behind) ≡ Ok s
 step_reads (step.Premise (Truth class number part)) behind h =
-    rw (room 8 (record_of (step.Premise (Truth class number part))) behind refl, number_of_bytes 2 number h.1)
+    rw (room 8 (record_of (step.Premise (Truth class number part))) behind refl, from_be_bytes-to_be_bytes_2 number h.1)
 step_reads (step.Premise (Falsity clause values)) behind h =
-    rw (room 14 (record_of (step.Premise (Falsity clause values))) behind refl, number_of_bytes 2 clause h.0, number_of_bytes 8 values.bits h.1)
+    rw (room 14 (record_of (step.Premise (Falsity clause values))) behind refl, from_be_bytes-to_be_bytes_2 clause h.0, from_be_bytes-to_be_bytes_8 values.bits h.1)
 step_reads (Resolve first second position) behind h =
-    rw (room 14 (record_of (Resolve first second position)) behind refl, number_of_bytes 4 first h.0, number_of_bytes 4 second h.1, number_of_bytes 2 position h.2)
+    rw (room 14 (record_of (Resolve first second position)) behind refl, from_be_bytes-to_be_bytes_4 first h.0, from_be_bytes-to_be_bytes_4 second h.1, from_be_bytes-to_be_bytes_2 position h.2)
 step_reads (Settle goal clause) behind h =
-    rw (room 10 (record_of (Settle goal clause)) behind refl, number_of_bytes 2 goal h.0, number_of_bytes 4 clause h.1)
+    rw (room 10 (record_of (Settle goal clause)) behind refl, from_be_bytes-to_be_bytes_2 goal h.0, from_be_bytes-to_be_bytes_4 clause h.1)
 
 -- and leaves those bytes
-pub rest_reads : (s : Step) (behind : List ℕ) → rest_from (record_of s ++ behind) ≡ behind
+rest_reads : (s : Step) (behind : List ℕ) → rest_from (record_of s ++ behind) ≡ behind
 rest_reads (step.Premise (Truth class number part)) behind = rw (room 8 (record_of (step.Premise (Truth class number part))) behind refl)
 rest_reads (step.Premise (Falsity clause values)) behind = rw (room 14 (record_of (step.Premise (Falsity clause values))) behind refl)
 rest_reads (Resolve first second position) behind = rw (room 14 (record_of (Resolve first second position)) behind refl)
 rest_reads (Settle goal clause) behind = rw (room 10 (record_of (Settle goal clause)) behind refl)
 
--- The other way: bytes that begin with a kind and have the bytes of a step's fields are its record and those behind.
-module _ (bs : List ℕ) where
-  header : (long kind : ℕ) → begins bs long kind ≡ true → (get_or bs 0 0 ≡ 0) × (get_or bs 1 0 ≡ long) × (get_or bs 2 0 ≡ 1) × (get_or bs 3 0 ≡ kind) × (long + 2 ≤ length bs)
-  header long kind h = (grind (arith, nat_tests), grind (arith, nat_tests), grind (arith, nat_tests), grind (arith, nat_tests), grind (arith, nat_tests))
-
-  pub truth_whole : (number : ℕ) → begins bs 6 1 ≡ true → bytes_of 2 number ≡ elements bs 5 2 →
-      bs ≡ record_of (step.Premise (Truth (get_or bs 4 0) number (get_or bs 7 0))) ++ drop 8 bs
-  truth_whole number h e = let k = header 6 1 h in let front = split_at 8 bs 0 k.4 in cc
-
-  pub falsity_whole : (clause : ℕ) (values : ValueWord) → begins bs 12 2 ≡ true → bytes_of 2 clause ≡ elements bs 4 2 → bytes_of 8 values.bits ≡ elements bs 6 8 →
-      bs ≡ record_of (step.Premise (Falsity clause values)) ++ drop 14 bs
-  falsity_whole clause values h e f = let k = header 12 2 h in let front = split_at 14 bs 0 k.4 in cc
-
-  pub resolve_whole : (first second position : ℕ) → begins bs 12 3 ≡ true → bytes_of 4 first ≡ elements bs 4 4 → bytes_of 4 second ≡ elements bs 8 4 → bytes_of 2 position ≡ elements bs 12 2 →
-      bs ≡ record_of (Resolve first second position) ++ drop 14 bs
-  resolve_whole first second position h e f g = let k = header 12 3 h in let front = split_at 14 bs 0 k.4 in cc
-
-  pub settle_whole : (goal clause : ℕ) → begins bs 8 4 ≡ true → bytes_of 2 goal ≡ elements bs 4 2 → bytes_of 4 clause ≡ elements bs 6 4 →
-      bs ≡ record_of (Settle goal clause) ++ drop 10 bs
-  settle_whole goal clause h e f = let k = header 8 4 h in let front = split_at 10 bs 0 k.4 in cc
-
--- What a reader answers where the bytes are a step's record and others behind it: the code has `rest @ ..` as a `take`.
-module _ (bs : List ℕ) (n : ℕ) (s : Step) (fits : Fits s) (whole : bs ≡ record_of s ++ drop n bs) where
-  pub accepts_step : Ok s ≡ step_from bs
-  accepts_step = sym (ap step_from whole ∙ step_reads s (drop n bs) fits)
-
-  pub accepts_rest : take (length bs - n) (drop n bs) ≡ rest_from bs
-  accepts_rest = take_rest bs n ∙ sym (ap rest_from whole ∙ rest_reads s (drop n bs))
-
-  pub accepts_law : Reads bs (Ok s) (take (length bs - n) (drop n bs))
-  accepts_law = (fits, whole ∙ ap (λ (l : List ℕ). record_of s ++ l) (sym (take_rest bs n)))
-
--- bytes that read as no step begin with no step's record
-pub refuses : (bs : List ℕ) (e : Refusal) → Err e ≡ step_from bs → (s : Step) (behind : List ℕ) → Fits s → bs ≡ record_of s ++ behind → ⊥
-refuses bs e r s behind h whole =
-    let reads : step_from bs ≡ Ok s = ap step_from whole ∙ step_reads s behind h in
-    let z : ◌≡◌ {A = ℕ} 0 1 = cc in
-    omega arith
-
--- A writer that puts a step's record in front writes the step.
-pub writes : (s : Step) (bs after : List ℕ) (r : Option ℕ) → Fits s → r ≡ put_count (record_of s) (length bs) → after ≡ put_front (record_of s) bs → Writes s r bs after
-writes s bs after r fits count written =
+-- what was written in front reads back
+pub reads_back : (s : Step) (r : Option ℕ) (before after : List ℕ) → Fits s → r ≡ written_count s (length before) → after ≡ written_into s before → ReadsBack s r after
+reads_back s r before after fits count written =
     let n = length (record_of s) in
-    let rest = drop n bs in
-    let back : ReadsBack s r after =
+    let rest = drop n before in
     ⊎_elim
     (λ room.
     let some : r ≡ Some n = rw count (rw room) in
@@ -88,5 +46,16 @@ writes s bs after r fits count written =
     let behind : rest_from after ≡ drop n after = ap rest_from front ∙ rest_reads s rest ∙ sym (ap (drop n) front ∙ drop_at (record_of s) rest n refl) in
     rw some (reads, behind))
     (λ none. let e : r ≡ None = rw count (rw none) in rw e tt)
-    (cases_Bool (leb n (length bs))) in
-    record { count = count; written = written; back = back }
+    (cases_Bool (leb n (length before)))
+
+-- a record of twelve bytes behind its length
+pub long_record : (bs : List ℕ) (kind : ℕ) → begins bs 12 kind ≡ true → bs ≡ 0 ∷ 12 ∷ 1 ∷ kind ∷ elements bs 4 10 ++ take (length bs - 14) (drop 14 bs)
+long_record bs kind h =
+    let a : get_or bs 0 0 ≡ 0 = grind (arith, nat_tests) in
+    let b : get_or bs 1 0 ≡ 12 = grind (arith, nat_tests) in
+    let c : get_or bs 2 0 ≡ 1 = grind (arith, nat_tests) in
+    let d : get_or bs 3 0 ≡ kind = grind (arith, nat_tests) in
+    let long : 14 ≤ length bs = grind (arith, nat_tests) in
+    let front = split_at 14 bs 0 long in
+    let rest = take_rest bs 14 in
+    cc

@@ -1,19 +1,19 @@
 -- Records: a length of two bytes, version 1, a kind, and the fields of a step.
-use Rattle.std.specs.Prelude.{◌≡◌, ℕ, ◌+◌, ◌^◌, ◌<◌, Bool, cond, ◌&&◌, List, [], ◌∷◌, ◌++◌, length, take, drop, Some, None, Ok, Err, Option, Result, ◌==◌, ◌≢◌, nat_le, slice_index}
+use Rattle.std.specs.Prelude.{◌≡◌, ℕ, ◌+◌, ◌^◌, ◌<◌, Bool, cond, ◌&&◌, List, [], ◌∷◌, ◌++◌, length, drop, Some, None, Ok, Err, Option, Result, ◌==◌, ◌≢◌, nat_le, slice_index}
+use Rattle.std.specs.Int.{Width, w16, w32, w64, to_be_bytes, from_be_bytes}
 use Rattle.base.specs.declared.faults.Fault.{Fault}
 use Rattle.base.specs.Causes.{Refusal, told, refused}
 use Rattle.records.specs.declared.step.Premise.TheVariants.{Truth, Falsity}
 use Rattle.records.specs.declared.step.Step.{Step}
 use Rattle.records.specs.declared.step.Step.TheVariants.{Resolve, Settle}
 use Rattle.records.specs.declared.step.Step.TheVariants as step
-use Rattle.records.specs.Bytes.{bytes_of, number_from}
 
 -- The record of a step.
 abbrev pub record_of : Step → List ℕ
-record_of (step.Premise (Truth class number part)) = 0 ∷ 6 ∷ 1 ∷ 1 ∷ class ∷ bytes_of 2 number ++ part ∷ []
-record_of (step.Premise (Falsity clause values)) = 0 ∷ 12 ∷ 1 ∷ 2 ∷ bytes_of 2 clause ++ bytes_of 8 values.bits
-record_of (Resolve first second position) = 0 ∷ 12 ∷ 1 ∷ 3 ∷ bytes_of 4 first ++ bytes_of 4 second ++ bytes_of 2 position
-record_of (Settle goal clause) = 0 ∷ 8 ∷ 1 ∷ 4 ∷ bytes_of 2 goal ++ bytes_of 4 clause
+record_of (step.Premise (Truth class number part)) = 0 ∷ 6 ∷ 1 ∷ 1 ∷ class ∷ to_be_bytes w16 number ++ part ∷ []
+record_of (step.Premise (Falsity clause values)) = 0 ∷ 12 ∷ 1 ∷ 2 ∷ to_be_bytes w16 clause ++ to_be_bytes w64 values.bits
+record_of (Resolve first second position) = 0 ∷ 12 ∷ 1 ∷ 3 ∷ to_be_bytes w32 first ++ to_be_bytes w32 second ++ to_be_bytes w16 position
+record_of (Settle goal clause) = 0 ∷ 8 ∷ 1 ∷ 4 ∷ to_be_bytes w16 goal ++ to_be_bytes w32 clause
 
 -- the fields of a step fit their bytes
 abbrev pub Fits : Step → Type 0
@@ -26,9 +26,9 @@ Fits (Settle goal clause) = (goal < 2 ^ 16) × (clause < 2 ^ 32)
 abbrev pub begins : List ℕ → ℕ → ℕ → Bool
 begins bs long kind = slice_index bs 0 == 0 && slice_index bs 1 == long && slice_index bs 2 == 1 && slice_index bs 3 == kind && nat_le (long + 2) (length bs)
 
--- the number in `count` bytes from an index on
-abbrev pub field : List ℕ → ℕ → ℕ → ℕ
-field bs at count = number_from 0 (take count (drop at bs))
+-- the number of this width in the bytes from an index on
+abbrev pub field : Width → List ℕ → ℕ → ℕ
+field w bs at = from_be_bytes w (drop at bs)
 
 abbrev pub malformed : Refusal
 malformed = refused 24 0 6
@@ -36,10 +36,10 @@ malformed = refused 24 0 6
 -- the step of the record in front, or the refusal
 abbrev pub step_from : List ℕ → Result Step Refusal
 step_from bs =
-    cond (begins bs 6 1) (Ok (step.Premise (Truth (slice_index bs 4) (field bs 5 2) (slice_index bs 7))))
-    (cond (begins bs 12 2) (Ok (step.Premise (Falsity (field bs 4 2) (record { bits = field bs 6 8 }))))
-    (cond (begins bs 12 3) (Ok (Resolve (field bs 4 4) (field bs 8 4) (field bs 12 2)))
-    (cond (begins bs 8 4) (Ok (Settle (field bs 4 2) (field bs 6 4))) (Err malformed))))
+    cond (begins bs 6 1) (Ok (step.Premise (Truth (slice_index bs 4) (field w16 bs 5) (slice_index bs 7))))
+    (cond (begins bs 12 2) (Ok (step.Premise (Falsity (field w16 bs 4) (record { bits = field w64 bs 6 }))))
+    (cond (begins bs 12 3) (Ok (Resolve (field w32 bs 4) (field w32 bs 8) (field w16 bs 12)))
+    (cond (begins bs 8 4) (Ok (Settle (field w16 bs 4) (field w32 bs 6))) (Err malformed))))
 
 -- the bytes behind that record; all of them where it is refused
 abbrev pub rest_from : List ℕ → List ℕ

@@ -1,9 +1,8 @@
 // Records: the steps of a proof as bytes, each with its length in front.
 ghost use Rattle.std.specs.Prelude.{◌≡◌, length};
-ghost use Rattle.base.specs.Causes.{answered, told};
-ghost use Rattle.records.specs.Records.{Reads, ReadsBack, Writes, malformed, put_count, put_front, rest_from, step_from, written_count, written_into};
+ghost use Rattle.base.specs.Causes.{answered};
+ghost use Rattle.records.specs.Records.{Reads, ReadsBack, put_count, put_front, rest_from, step_from, written_count, written_into};
 
-use super::numbers::{u16_of, u32_of, u64_of};
 use super::step::{Premise, Step};
 use base::faults::{Cause, Fault, Layer};
 use base::values::ValueWord;
@@ -14,51 +13,40 @@ pub fn read_record(bytes: &[u8]) -> (Result<Step, Fault>, &[u8])
     ensures rest { result.1.now ≡ rest_from bytes.now }
     ensures law { Reads bytes.now result.0 result.1.now }
 {
-    match bytes {
-        [0, 6, 1, 1, class, hi, lo, part, rest @ ..] => {
+    match *bytes {
+        [0, 6, 1, 1, class, hi, lo, part, ref rest @ ..] => {
             let premise = Premise::Truth {
-                class: *class,
-                number: u16_of(*hi, *lo),
-                part: *part,
+                class,
+                number: u16::from_be_bytes([hi, lo]),
+                part,
             };
             (Ok(Step::Premise(premise)), rest)
         }
-        [0, 12, 1, 2, hi, lo, a, b, c, d, e, f, g, h, rest @ ..] => {
+        [0, 12, 1, 2, hi, lo, a, b, c, d, e, f, g, h, ref rest @ ..] => {
             let premise = Premise::Falsity {
-                clause: u16_of(*hi, *lo),
+                clause: u16::from_be_bytes([hi, lo]),
                 values: ValueWord {
-                    bits: u64_of(*a, *b, *c, *d, *e, *f, *g, *h),
+                    bits: u64::from_be_bytes([a, b, c, d, e, f, g, h]),
                 },
             };
             (Ok(Step::Premise(premise)), rest)
         }
-        [0, 12, 1, 3, a, b, c, d, e, f, g, h, hi, lo, rest @ ..] => {
+        [0, 12, 1, 3, a, b, c, d, e, f, g, h, hi, lo, ref rest @ ..] => {
             let step = Step::Resolve {
-                first: u32_of(*a, *b, *c, *d),
-                second: u32_of(*e, *f, *g, *h),
-                position: u16_of(*hi, *lo),
+                first: u32::from_be_bytes([a, b, c, d]),
+                second: u32::from_be_bytes([e, f, g, h]),
+                position: u16::from_be_bytes([hi, lo]),
             };
             (Ok(step), rest)
         }
-        [0, 8, 1, 4, hi, lo, a, b, c, d, rest @ ..] => {
+        [0, 8, 1, 4, hi, lo, a, b, c, d, ref rest @ ..] => {
             let step = Step::Settle {
-                goal: u16_of(*hi, *lo),
-                clause: u32_of(*a, *b, *c, *d),
+                goal: u16::from_be_bytes([hi, lo]),
+                clause: u32::from_be_bytes([a, b, c, d]),
             };
             (Ok(step), rest)
         }
-        _ => (Err(malformed()), bytes),
-    }
-}
-
-// The refusal of bytes that begin with no record.
-fn malformed() -> Fault
-    ensures { told result ≡ malformed }
-{
-    Fault {
-        cause: Cause::RecordMalformed,
-        place: 0,
-        layer: Layer::Records,
+        _ => (Err(Layer::Records.fault(Cause::RecordMalformed, 0)), bytes),
     }
 }
 
@@ -75,51 +63,31 @@ pub fn write_record(step: Step, out: &mut [u8]) -> Option<usize>
                 number,
                 part,
             },
-        ) => put_truth(class, number, part, out),
-        Step::Premise(Premise::Falsity { clause, values }) => put_falsity(clause, values, out),
+        ) => {
+            let [hi, lo] = number.to_be_bytes();
+            put_front(&[0, 6, 1, 1, class, hi, lo, part], out)
+        }
+        Step::Premise(Premise::Falsity { clause, values }) => {
+            let [hi, lo] = clause.to_be_bytes();
+            let [a, b, c, d, e, f, g, h] = values.bits.to_be_bytes();
+            put_front(&[0, 12, 1, 2, hi, lo, a, b, c, d, e, f, g, h], out)
+        }
         Step::Resolve {
             first,
             second,
             position,
-        } => put_resolve(first, second, position, out),
-        Step::Settle { goal, clause } => put_settle(goal, clause, out),
+        } => {
+            let [a, b, c, d] = first.to_be_bytes();
+            let [e, f, g, h] = second.to_be_bytes();
+            let [hi, lo] = position.to_be_bytes();
+            put_front(&[0, 12, 1, 3, a, b, c, d, e, f, g, h, hi, lo], out)
+        }
+        Step::Settle { goal, clause } => {
+            let [hi, lo] = goal.to_be_bytes();
+            let [a, b, c, d] = clause.to_be_bytes();
+            put_front(&[0, 8, 1, 4, hi, lo, a, b, c, d], out)
+        }
     }
-}
-
-// Writes the record of a truth premise.
-fn put_truth(class: u8, number: u16, part: u8, out: &mut [u8]) -> Option<usize>
-    ensures { Writes (Step.Premise (Premise.Truth class number part)) result out.old out.new }
-{
-    let [hi, lo] = number.to_be_bytes();
-    put_front(&[0, 6, 1, 1, class, hi, lo, part], out)
-}
-
-// Writes the record of a falsity premise.
-fn put_falsity(clause: u16, values: ValueWord, out: &mut [u8]) -> Option<usize>
-    ensures { Writes (Step.Premise (Premise.Falsity clause values)) result out.old out.new }
-{
-    let [hi, lo] = clause.to_be_bytes();
-    let [a, b, c, d, e, f, g, h] = values.bits.to_be_bytes();
-    put_front(&[0, 12, 1, 2, hi, lo, a, b, c, d, e, f, g, h], out)
-}
-
-// Writes the record of a resolution.
-fn put_resolve(first: u32, second: u32, position: u16, out: &mut [u8]) -> Option<usize>
-    ensures { Writes (Step.Resolve first second position) result out.old out.new }
-{
-    let [a, b, c, d] = first.to_be_bytes();
-    let [e, f, g, h] = second.to_be_bytes();
-    let [hi, lo] = position.to_be_bytes();
-    put_front(&[0, 12, 1, 3, a, b, c, d, e, f, g, h, hi, lo], out)
-}
-
-// Writes the record of a settling.
-fn put_settle(goal: u16, clause: u32, out: &mut [u8]) -> Option<usize>
-    ensures { Writes (Step.Settle goal clause) result out.old out.new }
-{
-    let [hi, lo] = goal.to_be_bytes();
-    let [a, b, c, d] = clause.to_be_bytes();
-    put_front(&[0, 8, 1, 4, hi, lo, a, b, c, d], out)
 }
 
 // Copies `front` to the front of `out` and answers its length; where there is no room, it writes nothing.

@@ -1,7 +1,7 @@
 -- A replay: what its parts answer makes the plain case's report, and the slip in it holds.
-use Rattle.std.proofs.Common.{◌≡◌, ℕ, List, [], ◌∷◌, ◌++◌, length, Ok, Err, Result, sym, refl, ap, ◌∙◌, subst}
+use Rattle.std.proofs.Common.{◌≡◌, ℕ, List, [], ◌∷◌, ◌++◌, length, Ok, Err, Result, option_map, sym, refl, ap, ◌∙◌, subst}
 use Rattle.base.specs.declared.faults.Fault.{Fault}
-use Rattle.base.specs.Causes.{Refusal}
+use Rattle.base.specs.Causes.{Refusal, told}
 use Rattle.clauses.specs.declared.entry.Entry.{Entry}
 use Rattle.engine.specs.declared.examiner.Examiner.{Examiner}
 use Rattle.engine.specs.declared.shelf.Shelf.{Ghosts as ShelfGhosts}
@@ -16,7 +16,7 @@ use Rattle.engine.proofs.RowLaws.{err_ok, same_ok}
 use Rattle.engine.proofs.VerdictLaws.{run_append, reached_open}
 use Rattle.replay.specs.declared.report.Report.{Report}
 use Rattle.replay.specs.Replay.{Told, TakenRecords, taken, take_all, told_of, replayed_from, replayed}
-use Rattle.replay.specs.Reports.{TakesAll, Replays, ReportHolds, told_fault, told_report, told_outcome}
+use Rattle.replay.specs.Reports.{TakesAll, Replays, ReportHolds, told_report, told_outcome}
 use Rattle.replay.proofs.TurnLaws.{turns_run}
 
 module _ {S F : Type 0} (side : SideGhosts S) (shelf : ShelfGhosts F) where
@@ -40,7 +40,7 @@ module _ {S F : Type 0} (side : SideGhosts S) (shelf : ShelfGhosts F) where
     r = rules_of side shelf was
 
     abbrev t : TakenRecords
-    t = taken (state_of side shelf last) p.taken.records p.taken.bytes (told_fault p.taken.refusal)
+    t = taken (state_of side shelf last) p.taken.records p.taken.bytes (option_map told p.taken.refusal)
 
     told_is : told_report p ≡ told_of (rules_of side shelf last) ticket.number t
     told_is = rw (h.clauses, h.entries, h.settled, h.goals, h.slip)

@@ -1,6 +1,7 @@
 -- How taking a record of an examiner goes on with a replay, or ends it.
-use Rattle.std.proofs.Common.{◌≡◌, ℕ, ◌+◌, ◌-◌, ◌≤◌, false, eqb, List, length, drop, Some, Ok, Err, Result, sym, refl, ap, ◌∙◌, arith}
-use Rattle.std.proofs.lemmas.List.{length-drop}
+use Rattle.std.proofs.Common.{◌≡◌, ℕ, ◌+◌, ◌<◌, ◌≤◌, false, eqb, List, length, drop, Some, Ok, Err, Result, sym, refl, ap, ◌∙◌, arith}
+use Rattle.std.proofs.lemmas.Bool.{ne_eqb}
+use Rattle.std.proofs.lemmas.List.{length-drop, drop-drop}
 use Rattle.base.specs.declared.faults.Fault.{Fault}
 use Rattle.base.specs.Causes.{Refusal, told, answered}
 use Rattle.engine.specs.declared.examiner.Examiner.{Examiner}
@@ -14,11 +15,12 @@ use Rattle.replay.specs.Reports.{TakesAll}
 use Rattle.replay.proofs.TurnLaws.{used_some, one_more, refused_next}
 
 module _ {S F : Type 0} (side : SideGhosts S) (shelf : ShelfGhosts F) where
-  -- After n records the bytes that are left give what the whole proof gives; each record used a byte.
-  pub record GoesOn (proof rest : List ℕ) (n : ℕ) (was is : Examiner S F side shelf) : Type 0 where
-    pub all : take_turns (length rest) (rules_of side shelf was) (state_of side shelf is) n (length proof - length rest) rest ≡ take_all (rules_of side shelf was) (state_of side shelf was) proof
+  -- After n records of so many bytes those that are left give what the whole proof gives; each record used a byte.
+  pub record GoesOn (proof : List ℕ) (n bytes : ℕ) (was is : Examiner S F side shelf) : Type 0 where
+    pub all : take_turns (length (drop bytes proof)) (rules_of side shelf was) (state_of side shelf is) n bytes (drop bytes proof) ≡ take_all (rules_of side shelf was) (state_of side shelf was) proof
     pub kept : Kept side shelf was is
-    pub few : n + length rest ≤ length proof
+    pub few : n ≤ bytes
+    pub within : bytes ≤ length proof
 
   accepted_is : (o : Result (ℕ × State) Refusal) (k : ℕ) → ◌≡◌ {A = Result ℕ Refusal} (Ok k) (number_of side shelf o) → (x : ℕ × State) × (o ≡ Ok x)
   accepted_is (Ok x) k e = (x, refl)
@@ -45,43 +47,50 @@ module _ {S F : Type 0} (side : SideGhosts S) (shelf : ShelfGhosts F) where
         let uses = used_some rest r s x.0 x.1 in
         (omega (arith, t.used_bytes), omega (arith, t.used_bytes))
 
-    module _ (proof : List ℕ) (n : ℕ) (was : Examiner S F side shelf) (some : eqb (length rest) 0 ≡ false) (h : GoesOn proof rest n was mid) where
+  module _ (proof : List ℕ) (n bytes : ℕ) (was mid : Examiner S F side shelf) (h : GoesOn proof n bytes was mid) where
+    module _ (y : Result ℕ Fault) (used : ℕ) (is : Examiner S F side shelf) (t : Takes side shelf (drop bytes proof) y used mid is) (some : bytes < length proof) where
+      abbrev left : List ℕ
+      left = drop bytes proof
+
       kept_on : Kept side shelf was is
       kept_on =
           record { side_same = t.steps.kept.side_same ∙ h.kept.side_same; rules_same = t.steps.kept.rules_same ∙ h.kept.rules_same }
 
-      from_mid : take_turns (length rest) r s n (length proof - length rest) rest ≡ take_all (rules_of side shelf was) (state_of side shelf was) proof
+      some_left : eqb (length left) 0 ≡ false
+      some_left = let long = length-drop bytes proof in ne_eqb (length left) 0 (λ e. omega arith)
+
+      from_mid : take_turns (length left) (rules_of side shelf mid) (state_of side shelf mid) n bytes left ≡ take_all (rules_of side shelf was) (state_of side shelf was) proof
       from_mid =
-          ap (λ (q : Rules). take_turns (length rest) q s n (length proof - length rest) rest) h.kept.rules_same ∙ h.all
+          ap (λ (q : Rules). take_turns (length left) q (state_of side shelf mid) n bytes left) h.kept.rules_same ∙ h.all
 
       -- an accepted record leads on
-      pub taken_more : (k : ℕ) → y ≡ Ok k → GoesOn proof (drop used rest) (n + 1) was is
+      pub taken_more : (k : ℕ) → y ≡ Ok k → GoesOn proof (n + 1) (bytes + used) was is
       taken_more k e =
-          let x = accepted k e in
-          let uses = taken_some k e in
-          let left = length-drop used rest in
+          let r : Rules = rules_of side shelf mid in
+          let s : State = state_of side shelf mid in
+          let x = accepted left y used mid is t k e in
+          let uses = taken_some left y used mid is t k e in
+          let long = length-drop bytes proof in
           let few = h.few in
-          let count : length proof - length rest + used ≡ length proof - length (drop used rest) = omega arith in
+          let behind : drop used left ≡ drop (bytes + used) proof = drop-drop used bytes proof in
           let state : state_of side shelf is ≡ x.0.1 = t.steps.state ∙ ap (after side shelf s) x.1 in
           record {
-            all =
-                ap (λ (q : State). take_turns (length (drop used rest)) (rules_of side shelf was) q (n + 1) (length proof - length (drop used rest)) (drop used rest)) state
-                ∙ ap (λ (q : Rules). take_turns (length (drop used rest)) q x.0.1 (n + 1) (length proof - length (drop used rest)) (drop used rest)) (sym h.kept.rules_same)
-                ∙ ap (λ (b : ℕ). take_turns (length (drop used rest)) r x.0.1 (n + 1) b (drop used rest)) (sym count)
-                ∙ ap (λ (u : ℕ). take_turns (length (drop u rest)) r x.0.1 (n + 1) (length proof - length rest + u) (drop u rest)) t.used_bytes
-                ∙ sym (one_more r s n (length proof - length rest) rest x.0 some x.1) ∙ from_mid;
+            all = cc (state, h.kept.rules_same, behind, t.used_bytes, one_more r s n bytes left x.0 some_left x.1, from_mid);
             kept = kept_on;
             few = omega arith;
+            within = omega arith;
           }
 
       -- a refused one ends it
-      pub taken_refused : (f : Fault) → y ≡ Err f → TakesAll side shelf proof (record { records = n; bytes = length proof - length rest; refusal = Some f }) was is
+      pub taken_refused : (f : Fault) → y ≡ Err f → TakesAll side shelf proof (record { records = n; bytes = bytes; refusal = Some f }) was is
       taken_refused f e =
-          let no : take_result r s rest ≡ Err (told f) = refused_is (take_result r s rest) (told f) (ap answered (sym e) ∙ t.steps.answer) in
+          let r : Rules = rules_of side shelf mid in
+          let s : State = state_of side shelf mid in
+          let no : take_result r s left ≡ Err (told f) = refused_is (take_result r s left) (told f) (ap answered (sym e) ∙ t.steps.answer) in
           let state : state_of side shelf is ≡ s = t.steps.state ∙ ap (after side shelf s) no in
           record {
             all =
-                ap (λ (q : State). taken q n (length proof - length rest) (Some (told f))) state
-                ∙ sym (refused_next r s n (length proof - length rest) rest (told f) some no) ∙ from_mid;
+                ap (λ (q : State). taken q n bytes (Some (told f))) state
+                ∙ sym (refused_next r s n bytes left (told f) some_left no) ∙ from_mid;
             kept = kept_on;
           }

@@ -1,6 +1,7 @@
 // Progress of long work.
 
-// Whoever wants to know how far a replay has come.
+// Whoever wants to know how far a replay has come. It is a trait, since a call that takes a closure would have to require
+// something of it.
 pub trait Progress {
     // So many records of so many bytes were taken.
     fn taken(&mut self, records: usize, bytes: usize);

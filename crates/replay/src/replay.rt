@@ -77,24 +77,25 @@ fn take_all<S: Side, F: Shelf, P: Progress>(
 ) -> Taken
     ensures { TakesAll S.Side F.Shelf proof.now result examiner.old examiner.new }
 {
-    let mut rest = proof;
     let mut records = 0usize;
-    while !rest.is_empty() {
-        let (taken, used) = examiner.take(rest);
-        if let Err(fault) = taken {
+    let mut bytes = 0usize;
+    // The length of a record is known once it is taken.
+    while bytes < proof.len() {
+        let (answer, used) = examiner.take(&proof[bytes..]);
+        if let Err(fault) = answer {
             return Taken {
                 records,
-                bytes: proof.len() - rest.len(),
+                bytes,
                 refusal: Some(fault),
             };
         }
-        rest = &rest[used..];
         records += 1;
-        tell(progress, records, proof.len() - rest.len());
+        bytes += used;
+        tell(progress, records, bytes);
     }
     Taken {
         records,
-        bytes: proof.len(),
+        bytes,
         refusal: None,
     }
 }

@@ -1,9 +1,9 @@
 -- Laws of a row that is cut into clauses.
-use Rattle.std.proofs.Common.{◌≡◌, ℕ, zero, suc, ◌+◌, ◌-◌, ◌<◌, ◌≤◌, min, true, eqb, leb, ◌⊎◌, List, [], ◌∷◌, ◌++◌, length, get_or, take, drop, sym, refl, ap, ◌∙◌, inl, inr, arith, length-drop, length-take}
+use Rattle.std.proofs.Common.{◌≡◌, ℕ, zero, suc, ◌+◌, ◌-◌, ◌<◌, ◌≤◌, true, eqb, leb, List, [], ◌∷◌, ◌++◌, length, get_or, take, drop, refl, ap, ◌∙◌, arith, length-drop}
 use Rattle.std.proofs.lemmas.List.{drop_at, take_all, drop-append-le, take-append-le, get_or_past}
-use Rattle.std.proofs.lemmas.Bool.{and_parts, and_from, leb-true, eqb-true, eq-eqb, le-leb, ne_eqb, cases_lt, cond-true, cond-false}
+use Rattle.std.proofs.lemmas.Bool.{and_parts, and_from, leb-true, eqb-true, eq-eqb, le-leb}
+use Rattle.std.proofs.lemmas.Bool.Decides.{nat_tests}
 use Rattle.clauses.specs.declared.entry.Entry.{Entry}
-use Rattle.clauses.specs.Clauses.{over}
 use Rattle.engine.specs.Shelves.{entries_in, clause_at}
 use Rattle.shelves.specs.Cut.{cut, rising, rising_low, length_cut, total_cut}
 
@@ -32,68 +32,33 @@ rising_push s (a ∷ ends) u e h r =
     and_from (leb s a) (rising a (ends ++ e ∷ []) e) both.0 (rising_push a ends u e h both.1)
 
 -- where the piece k lies
-piece_at : (s : ℕ) (ends : List ℕ) (row : List Entry) (k : ℕ) → k < length ends → get_or (cut s ends row) k [] ≡ take (get_or ends k 0 - get_or (s ∷ ends) k 0) (drop (get_or (s ∷ ends) k 0) row)
+pub piece_at : (s : ℕ) (ends : List ℕ) (row : List Entry) (k : ℕ) → k < length ends → get_or (cut s ends row) k [] ≡ take (get_or ends k 0 - get_or (s ∷ ends) k 0) (drop (get_or (s ∷ ends) k 0) row)
 piece_at s [] row k h = absurd (omega arith)
 piece_at s (e ∷ ends) row zero h = refl
 piece_at s (e ∷ ends) row (suc k) h = piece_at e ends row k (omega arith)
 
 -- no piece goes backwards or past the row
-piece_low : (s : ℕ) (ends : List ℕ) (u k : ℕ) → rising s ends u ≡ true → k < length ends → get_or (s ∷ ends) k 0 ≤ get_or ends k 0
+pub piece_low : (s : ℕ) (ends : List ℕ) (u k : ℕ) → rising s ends u ≡ true → k < length ends → get_or (s ∷ ends) k 0 ≤ get_or ends k 0
 piece_low s [] u k r h = absurd (omega arith)
 piece_low s (e ∷ ends) u zero r h = leb-true s e (and_parts (leb s e) (rising e ends u) r).0
 piece_low s (e ∷ ends) u (suc k) r h = piece_low e ends u k (and_parts (leb s e) (rising e ends u) r).1 (omega arith)
 
-piece_high : (s : ℕ) (ends : List ℕ) (u k : ℕ) → rising s ends u ≡ true → k < length ends → get_or ends k 0 ≤ u
+pub piece_high : (s : ℕ) (ends : List ℕ) (u k : ℕ) → rising s ends u ≡ true → k < length ends → get_or ends k 0 ≤ u
 piece_high s [] u k r h = absurd (omega arith)
 piece_high s (e ∷ ends) u zero r h = rising_low e ends u (and_parts (leb s e) (rising e ends u) r).1
 piece_high s (e ∷ ends) u (suc k) r h = piece_high e ends u k (and_parts (leb s e) (rising e ends u) r).1 (omega arith)
 
-module _ (ends : List ℕ) (row : List Entry) (u : ℕ) (r : rising 0 ends u ≡ true) where
-  -- the clause with a number lies between the end before it and its own
-  pub clause_low : (n : ℕ) → 0 < n → n ≤ length ends → get_or (0 ∷ ends) (n - 1) 0 ≤ get_or (0 ∷ ends) n 0
-  clause_low zero p h = absurd (omega arith)
-  clause_low (suc k) p h =
-      let back : suc k - 1 ≡ k = omega arith in
-      let low : get_or (0 ∷ ends) k 0 ≤ get_or ends k 0 = piece_low 0 ends u k r (omega arith) in
-      let same : get_or (0 ∷ ends) (suc k - 1) 0 ≡ get_or (0 ∷ ends) k 0 = ap (λ i. get_or (0 ∷ ends) i 0) back in
-      omega arith
-
-  pub clause_high : (n : ℕ) → n ≤ length ends → get_or (0 ∷ ends) n 0 ≤ u
-  clause_high zero h = omega arith
-  clause_high (suc k) h = piece_high 0 ends u k r (omega arith)
-
-  pub clause_lies : (n : ℕ) → 0 < n → n ≤ length ends → take (get_or (0 ∷ ends) n 0 - get_or (0 ∷ ends) (n - 1) 0) (drop (get_or (0 ∷ ends) (n - 1) 0) row) ≡ clause_at (cut 0 ends row) n
-  clause_lies zero p h = absurd (omega arith)
-  clause_lies (suc k) p h =
-      let back : suc k - 1 ≡ k = omega arith in
-      ap (λ i. take (get_or ends k 0 - get_or (0 ∷ ends) i 0) (drop (get_or (0 ∷ ends) i 0) row)) back
-      ∙ sym (piece_at 0 ends row k (omega arith))
-      ∙ ap (λ i. get_or (cut 0 ends row) i []) (sym back)
-      ∙ sym (cond-false (eqb (suc k) 0) [] (get_or (cut 0 ends row) (suc k - 1) []) (ne_eqb (suc k) 0 (λ e. omega arith)))
+-- the clause after the first k ends where the k-th piece does
+pub clause_piece : (ends : List ℕ) (row : List Entry) (n k : ℕ) → n ≡ k + 1 → k < length ends → clause_at (cut 0 ends row) n ≡ take (get_or ends k 0 - get_or (0 ∷ ends) k 0) (drop (get_or (0 ∷ ends) k 0) row)
+clause_piece ends row n k e h = let at = piece_at 0 ends row k h in grind (arith, nat_tests)
 
 -- what is not filed has no entries
-pub clause_none : (ends : List ℕ) (row : List Entry) (n : ℕ) → (n ≡ 0) ⊎ (length ends < n) → clause_at (cut 0 ends row) n ≡ []
-clause_none ends row n (inl e) = cond-true (eqb n 0) [] (get_or (cut 0 ends row) (n - 1) []) (eq-eqb n 0 e)
-clause_none ends row n (inr h) =
+pub clause_none : (ends : List ℕ) (row : List Entry) (n k : ℕ) → n ≡ k + 1 → length ends ≤ k → clause_at (cut 0 ends row) n ≡ []
+clause_none ends row n k e h =
     let l = length_cut 0 ends row in
-    cond-false (eqb n 0) [] (get_or (cut 0 ends row) (n - 1) []) (ne_eqb n 0 (λ e. omega arith))
-    ∙ get_or_past (cut 0 ends row) (n - 1) [] (omega arith)
+    let past = get_or_past (cut 0 ends row) k [] (omega arith) in
+    grind (arith, nat_tests)
 
--- how many clauses there are, and how many entries they have, by the lengths of the two rows
-pub cut_count : (ends : List ℕ) (row : List Entry) (m : ℕ) → m ≡ length ends → m ≡ length (cut 0 ends row)
-cut_count ends row m e = let l = length_cut 0 ends row in omega arith
-
+-- how many entries the clauses have, by the length of the row
 pub cut_entries : (ends : List ℕ) (row : List Entry) (u : ℕ) → u ≡ length row → rising 0 ends u ≡ true → u ≡ entries_in (cut 0 ends row)
 cut_entries ends row u e r = let t : 0 + entries_in (cut 0 ends row) ≡ u = total_cut 0 ends row u e r in omega arith
-
--- as much of a clause as goes in, written at the front of a row
-module _ (c row : List Entry) (n : ℕ) (is : n ≡ min (length c) (length row)) where
-  front_by : (n < length c) ⊎ (length c ≤ n) → take n c ≡ take (length row) c
-  front_by (inl h) = ap (λ k. take k c) (omega arith)
-  front_by (inr h) = take_all n c h ∙ sym (take_all (length row) c (omega arith))
-
-  pub copied_front : (part : List Entry) (m : ℕ) → m ≡ n → part ≡ take m c → part ++ drop m row ≡ over (take (length row) c) row
-  copied_front part m e p =
-      let front : part ≡ take (length row) c = p ∙ ap (λ k. take k c) e ∙ front_by (cases_lt n (length c)) in
-      let long : m ≡ length (take (length row) c) = let l = length-take (length row) c in omega arith in
-      ap (λ l. l ++ drop m row) front ∙ ap (λ k. take (length row) c ++ drop k row) long

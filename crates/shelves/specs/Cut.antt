@@ -42,8 +42,8 @@ total_cut s (e ∷ ends) row u n r =
     omega arith
 
 -- what a shelf promises of its limits and its list, from what the flat shelf knows of its rows
-pub cut_fits : (ends : List ℕ) (row : List Entry) (k w m u : ℕ) → m ≡ length ends → u ≡ length row → rising 0 ends u ≡ true → (k ≤ 1000000) × (w ≤ 16000000) → (m ≤ k) × (u ≤ w) → (k ≤ 1000000) × (w ≤ 16000000) × (length (cut 0 ends row) ≤ k) × (entries_in (cut 0 ends row) ≤ w)
-cut_fits ends row k w m u em eu r limits within =
+pub cut_fits : (ends : List ℕ) (row : List Entry) (k w m u : ℕ) → m ≡ length ends → u ≡ length row → rising 0 ends u ≡ true → k ≤ 1000000 → w ≤ 16000000 → m ≤ k → u ≤ w → (k ≤ 1000000) × (w ≤ 16000000) × (length (cut 0 ends row) ≤ k) × (entries_in (cut 0 ends row) ≤ w)
+cut_fits ends row k w m u em eu r few narrow clauses entries =
     let long = length_cut 0 ends row in
     let all : 0 + entries_in (cut 0 ends row) ≡ u = total_cut 0 ends row u eu r in
-    (limits.0, limits.1, omega arith, omega arith)
+    (few, narrow, omega arith, omega arith)

@@ -3,7 +3,7 @@ ghost use Rattle.std.specs.Prelude.{◌≡◌, ◌+◌, ◌≤◌, min, true, []
 ghost use Rattle.engine.specs.Shelves.{clause_at};
 ghost use Rattle.shelves.specs.Cut.{cut, rising, cut_fits};
 
-use base::values::ValueWord;
+use super::{MOST_CLAUSES, MOST_ENTRIES};
 use clauses::entry::Entry;
 use engine::shelf::Shelf;
 
@@ -16,24 +16,17 @@ pub struct FlatShelf {
     // How many clauses, and how many entries in all, the shelf takes.
     clauses: u32,
     width: u32,
-    ghost limits: { (clauses ≤ 1000000) × (width ≤ 16000000) },
-    ghost room: { (clauses ≤ vec_capacity ends) × (width ≤ vec_capacity entries) },
-    ghost within: { (vec_len ends ≤ clauses) × (vec_len entries ≤ width) },
+    ghost few: { clauses ≤ 1000000 },
+    ghost narrow: { width ≤ 16000000 },
+    ghost clause_room: { clauses ≤ vec_capacity ends },
+    ghost entry_room: { width ≤ vec_capacity entries },
+    ghost clauses_within: { vec_len ends ≤ clauses },
+    ghost entries_within: { vec_len entries ≤ width },
     // The ends ascend, and the last is where the row of entries ends.
     ghost rise: { rising 0 ends.items (vec_len entries) ≡ true },
 }
 
-// The smaller of a row's capacity and a limit.
-fn capped(capacity: usize, limit: u32) -> u32
-    ensures { result ≡ min capacity limit }
-{
-    if capacity < limit as usize {
-        return capacity as u32;
-    }
-    limit
-}
-
-// Appends a clause to a row that has room for it; asks for no memory.
+// Appends a clause to a row that has room for it. `extend_from_slice` may ask for memory, and `push_reserved` does not.
 fn append(row: &mut Vec<Entry>, clause: &[Entry])
     requires { vec_len row.old + length clause.now ≤ vec_capacity row.old }
     ensures items { row.new.items ≡ row.old.items ++ clause.now }
@@ -53,10 +46,10 @@ impl FlatShelf {
         ensures clauses { result.clauses ≡ min (vec_capacity ends) 1000000 }
         ensures width { result.width ≡ min (vec_capacity entries) 16000000 }
     {
-        ends.truncate(0);
-        entries.truncate(0);
-        let clauses = capped(ends.capacity(), 1_000_000);
-        let width = capped(entries.capacity(), 16_000_000);
+        ends.clear();
+        entries.clear();
+        let clauses = ends.capacity().min(MOST_CLAUSES) as u32;
+        let width = entries.capacity().min(MOST_ENTRIES) as u32;
         FlatShelf {
             ends,
             entries,
@@ -65,15 +58,15 @@ impl FlatShelf {
         }
     }
 
-    // Where the entries of the clause with a number end; 0 for the number 0.
-    fn end(&self, number: usize) -> usize
-        requires { number ≤ vec_len self.now.ends }
-        ensures { result ≡ slice_index (0 ∷ self.now.ends.items) number }
+    // Where the entries of the clause at an index, from 0, begin: where those of the clause before it end.
+    fn start(&self, index: usize) -> usize
+        requires { index ≤ vec_len self.now.ends }
+        ensures { result ≡ slice_index (0 ∷ self.now.ends.items) index }
     {
-        if number == 0 {
-            return 0;
+        match index.checked_sub(1) {
+            Some(before) => self.ends[before] as usize,
+            None => 0,
         }
-        self.ends[number - 1] as usize
     }
 
     // The entries of a clause; none where there is no such clause.
@@ -81,14 +74,13 @@ impl FlatShelf {
         ensures is { result.now ≡ clause_at (cut 0 self.now.ends.items self.now.entries.items) number }
         ensures short { length result.now ≤ 16000000 }
     {
-        let n = number as usize;
-        let count = self.ends.len();
-        if n == 0 || n > count {
-            return &self.entries.as_slice()[0..0];
-        }
-        let from = self.end(n - 1);
-        let to = self.end(n);
-        &self.entries.as_slice()[from..to]
+        let Some(index) = (number as usize).checked_sub(1) else {
+            return &[];
+        };
+        let Some(end) = self.ends.get(index) else {
+            return &[];
+        };
+        &self.entries.as_slice()[self.start(index)..*end as usize]
     }
 }
 
@@ -99,11 +91,11 @@ impl Shelf for FlatShelf {
 
     ghost W = { λ s. s.width };
 
-    ghost fits = { λ s. cut_fits s.ends.items s.entries.items s.clauses s.width (vec_len s.ends) (vec_len s.entries) s.ends.ok.0 s.entries.ok.0 s.rise s.limits s.within };
+    ghost fits = { λ s. cut_fits s.ends.items s.entries.items s.clauses s.width (vec_len s.ends) (vec_len s.entries) s.ends.ok.0 s.entries.ok.0 s.rise s.few s.narrow s.clauses_within s.entries_within };
 
     fn clear(&mut self) {
-        self.ends.truncate(0);
-        self.entries.truncate(0);
+        self.ends.clear();
+        self.entries.clear();
     }
 
     fn file(&mut self, clause: &[Entry]) -> Option<u32> {
@@ -128,19 +120,13 @@ impl Shelf for FlatShelf {
 
     fn entry(&self, number: u32, index: u32) -> Entry {
         let clause = self.clause(number);
-        if (index as usize) < clause.len() {
-            return clause[index as usize];
-        }
-        Entry {
-            code: 0,
-            values: ValueWord { bits: 0 },
-        }
+        clause.get(index as usize).copied().unwrap_or_default()
     }
 
     fn copy(&self, number: u32, row: &mut [Entry]) -> usize {
         let source = self.clause(number);
         let n = source.len().min(row.len());
-        row[0..n].copy_from_slice(&source[0..n]);
+        row[..n].copy_from_slice(&source[..n]);
         n
     }
 

@@ -51,30 +51,21 @@ impl<'a> Side for FalsitySide<'a> {
     ghost brief = { λ s g. falsity_brief };
 
     fn open(&self) -> Result<(), Fault> {
-        if self.formula.is_lawful() {
-            return Ok(());
+        if !self.formula.is_lawful() {
+            return Err(Layer::Case.fault(Cause::TablesUnlawful, 0));
         }
-        Err(Fault {
-            cause: Cause::TablesUnlawful,
-            place: 0,
-            layer: Layer::Case,
-        })
+        Ok(())
     }
 
     fn is_own(&self, premise: Premise) -> bool {
-        match premise {
-            Premise::Truth { .. } => false,
-            Premise::Falsity { .. } => true,
-        }
+        matches!(premise, Premise::Falsity { .. })
     }
 
     fn lay_premise(&self, premise: Premise, row: &mut [Entry]) -> Result<usize, Cause> {
-        match premise {
-            Premise::Truth { .. } => Err(Cause::NotThere),
-            Premise::Falsity { clause, values } => {
-                lay_instance(&self.formula, clause as u32, values, row)
-            }
-        }
+        let Premise::Falsity { clause, values } = premise else {
+            return Err(Cause::NotThere);
+        };
+        lay_instance(&self.formula, clause.into(), values, row)
     }
 
     fn goal_count(&self) -> u32 {

@@ -10,6 +10,7 @@ ghost use Rattle.sides.specs.SideRules.{truth_rules};
 use base::faults::{Cause, Fault};
 use clauses::entry::Entry;
 use engine::side::{Side, Verdict};
+use formula::tables::MAX_CLAUSES;
 use gates::goals::copy_goal;
 use gates::opening::check_opening;
 use gates::wiring::lay_wiring;
@@ -58,25 +59,23 @@ impl<'a> Side for TruthSide<'a> {
     }
 
     fn is_own(&self, premise: Premise) -> bool {
-        match premise {
-            Premise::Truth { .. } => true,
-            Premise::Falsity { .. } => false,
-        }
+        matches!(premise, Premise::Truth { .. })
     }
 
     fn lay_premise(&self, premise: Premise, row: &mut [Entry]) -> Result<usize, Cause> {
-        match premise {
-            Premise::Truth {
-                class,
-                number,
-                part,
-            } => { lay_wiring(&self.circuit, class, number, part, row) }
-            Premise::Falsity { .. } => Err(Cause::NotThere),
-        }
+        let Premise::Truth {
+            class,
+            number,
+            part,
+        } = premise
+        else {
+            return Err(Cause::NotThere);
+        };
+        lay_wiring(&self.circuit, class, number, part, row)
     }
 
     fn goal_count(&self) -> u32 {
-        self.formula.head.clauses.min(16_384)
+        self.formula.head.clauses.min(MAX_CLAUSES)
     }
 
     fn copy_goal(&self, number: u32, row: &mut [Entry]) -> usize {

@@ -16,8 +16,8 @@ use Rattle.spelling.specs.FormulaGrammar.{Name, Number}
 use Rattle.spelling.specs.FormulaLaw.{Behind}
 use Rattle.spelling.specs.CircuitGrammar.{Aig, wires_of, LawfulCircuit, Numbers, more, numbers_of, input_literals, gate_literals, OrderedFrom, SpellsCircuit, spells}
 use Rattle.spelling.specs.CircuitLaw.{AcceptsCircuit}
-use Rattle.spelling.proofs.ProperWords.{ok_same, cond_ok}
-use Rattle.spelling.proofs.CircuitReads.{err_ok, then_cases, then_from, Taken, Run, run_more, run_append, run_split, run_numbers, numbers_run, run_behind, Named, named, name_taken, taken_name, count_taken, taken_count, at_most_is, is_at_most, table_count_is, is_table_count}
+use Rattle.spelling.proofs.ProperWords.{ok_same, no_ok, cond_ok}
+use Rattle.spelling.proofs.CircuitReads.{then_cases, then_from, Taken, Run, run_more, run_append, run_split, run_numbers, numbers_run, run_behind, Named, named, name_taken, taken_name, count_taken, taken_count, at_most_is, is_at_most, table_count_is, is_table_count}
 use Rattle.spelling.proofs.CircuitParts.{inputs_run, run_inputs, outputs_all, run_outputs, gates_all, run_gates}
 
 abbrev aag : List ℕ
@@ -182,13 +182,13 @@ module _ (text : List ℕ) (p q output_room gate_room : ℕ) (os : List ℕ) (gs
 
   by_answer : (r : Result CircuitHead Fault) (c : Result Circuit Refusal) → circuit_from text p output_room gate_room ≡ c → Agrees c r output_room os gate_room gs p q → AcceptsCircuit text p r os gs q
   by_answer (Ok h) (Ok c) e a = accepted h c (circuit_read text p output_room gate_room c e) a.head a.outputs a.gates a.place
-  by_answer (Ok h) (Err x) e a = absurd (err_ok x h (sym a.head))
-  by_answer (Err f) (Ok c) e a = absurd (err_ok (told f) c.head a.head)
+  by_answer (Ok h) (Err x) e a = absurd (no_ok h x (sym a.head))
+  by_answer (Err f) (Ok c) e a = absurd (no_ok c.head (told f) a.head)
   by_answer (Err f) (Err x) e a = λ c rest short s lawful o g.
       let ol : length os ≡ output_room = ap length a.outputs ∙ length-replicate output_room 0 in
       let gl : length gs ≡ gate_room = ap length a.gates ∙ length-replicate gate_room no_gate in
       let r = circuit_is text p output_room gate_room c rest short s lawful (omega arith) (omega arith) in
-      err_ok x r.0 (sym e ∙ r.1)
+      no_ok r.0 x (sym e ∙ r.1)
 
 pub circuit_accepts : (text : List ℕ) (p q : ℕ) (r : Result CircuitHead Fault) (room_o room_g : ℕ) (os : List ℕ) (gs : List Gate) → Agrees (circuit_from text p room_o room_g) r room_o os room_g gs p q → AcceptsCircuit text p r os gs q
 circuit_accepts text p q r room_o room_g os gs a = by_answer text p q room_o room_g os gs r (circuit_from text p room_o room_g) refl a

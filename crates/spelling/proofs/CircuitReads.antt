@@ -12,19 +12,16 @@ use Rattle.spelling.specs.CircuitGrammar.{Numbers, none, more}
 use Rattle.spelling.proofs.ProperWords.{ok_same, no_ok, then_ok, cond_ok, reads_number, is_number, reads_name, is_name}
 
 -- answers
-pub err_ok : {X : Type 0} (e : Refusal) (y : X) → Err e ≡ Ok y → ⊥
-err_ok e y h = no_ok y e h
-
 pub then_cases : {X Y C : Type 0} (r : Result X Refusal) (f : X → Result Y Refusal) (y : Y) → and_then r f ≡ Ok y → ((x : X) → r ≡ Ok x → f x ≡ Ok y → C) → C
 then_cases (Ok x) f y e go = go x refl e
-then_cases (Err e) f y h go = absurd (err_ok e y h)
+then_cases (Err e) f y h go = absurd (no_ok y e h)
 
 pub then_from : {X Y : Type 0} (r : Result X Refusal) (f : X → Result Y Refusal) (x : X) (y : Result Y Refusal) → r ≡ Ok x → f x ≡ y → and_then r f ≡ y
 then_from r f x y e h = ap (λ s. and_then s f) e ∙ h
 
 pub passes_true : {X : Type 0} (b : Bool) (e : Refusal) (r : Result X Refusal) (y : X) → cond b r (Err e) ≡ Ok y → (b ≡ true) × (r ≡ Ok y)
 passes_true true e r y h = (refl, h)
-passes_true false e r y h = absurd (err_ok e y h)
+passes_true false e r y h = absurd (no_ok y e h)
 
 -- one word is taken, which is a number, and the place is behind it
 pub data Taken : List Spelt → ℕ → List Spelt → ℕ → Type 0 where
@@ -62,7 +59,7 @@ run_behind all (goes {w} {ws} h r) b =
 
 -- a number
 pub number_taken : (ws : List Spelt) (size : ℕ) (g : (ℕ × ℕ) × List Spelt × ℕ) → number_from ws size ≡ Ok g → Taken ws g.0.0 g.1 g.2
-number_taken [] size g e = absurd (err_ok _ g e)
+number_taken [] size g e = absurd (no_ok g _ e)
 number_taken (w ∷ ws) size g e =
     let s = then_ok (number_in w) _ g e in
     subst (λ (t : (ℕ × ℕ) × List Spelt × ℕ). Taken (w ∷ ws) t.0.0 t.1 t.2) (ok_same _ g s.2) (taken (is_number w s.0 s.1))
@@ -75,7 +72,7 @@ pub data Named : List ℕ → List Spelt → List Spelt → ℕ → Type 0 where
   named : {name : List ℕ} {w : Spelt} {ws : List Spelt} → Name w name → Named name (w ∷ ws) ws (end_of w)
 
 pub name_taken : (name : List ℕ) (ws : List Spelt) (size : ℕ) (g : Unit {0} × List Spelt × ℕ) → name_from name ws size ≡ Ok g → Named name ws g.1 g.2
-name_taken name [] size g e = absurd (err_ok _ g e)
+name_taken name [] size g e = absurd (no_ok g _ e)
 name_taken name (w ∷ ws) size g e =
     let s = then_ok (name_in name w) _ g e in
     subst (λ (t : Unit {0} × List Spelt × ℕ). Named name (w ∷ ws) t.1 t.2) (ok_same _ g s.2) (named (is_name name w s.1))

@@ -4,7 +4,7 @@ use mathlib.Core.List.{map-append}
 use Rattle.std.specs.List.{AllByRecursion}
 use Rattle.std.proofs.ByRecursion.{All-push}
 use Rattle.std.proofs.lemmas.List.{length_push}
-use Rattle.std.proofs.lemmas.Bool.{cond_both, cond-false, eqb-false, eqb-true, leb-false, lt-leb, ne_eqb, not-false, not_from_true, or_from, or_parts}
+use Rattle.std.proofs.lemmas.Bool.{cond_both, cond-false, eqb-true, leb-false, lt-leb, ne_eqb, not-false, not_from_true}
 use Rattle.std.proofs.lemmas.Bool.Decides.{nat_tests}
 use Rattle.base.specs.Causes.{Refusal}
 use Rattle.words.specs.Words.{Spelt, letter, number, other, end_of, start_of}
@@ -18,35 +18,13 @@ use Rattle.spelling.specs.FormulaGrammar.{ClauseText, MatrixText, Signed}
 use Rattle.spelling.specs.FormulaGrammar.ClauseText.{ends, goes}
 use Rattle.spelling.specs.FormulaGrammar.MatrixText.{none, more}
 use Rattle.spelling.specs.FormulaLaw.{Behind}
+use Rattle.spelling.proofs.PrefixLaws.{all_next, distinct_next, distinct_push}
 use Rattle.spelling.proofs.ProperWords.{Proper, reads_literal, then_at}
 
-names_member : (v : ℕ) (ls : List Literal) → names v ls ≡ member v (map literal_variable ls)
+-- the variables that literals name
+pub names_member : (v : ℕ) (ls : List Literal) → names v ls ≡ member v (map literal_variable ls)
 names_member v [] = refl
 names_member v (l ∷ ls) = ap (λ b. eqb l.variable v || b) (names_member v ls)
-
-member_push : (v x : ℕ) (xs : List ℕ) → member v xs ≡ false → (x ≡ v → ⊥) → member v (xs ++ x ∷ []) ≡ false
-member_push v x [] e ne = or_from (eqb x v) false (ne_eqb x v ne) refl
-member_push v x (y ∷ xs) e ne =
-    let p = or_parts (eqb y v) (member v xs) e in or_from (eqb y v) (member v (xs ++ x ∷ [])) p.0 (member_push v x xs p.1 ne)
-
-distinct_push : (xs : List ℕ) (x : ℕ) → Distinct xs → member x xs ≡ false → Distinct (xs ++ x ∷ [])
-distinct_push [] x d e = (refl, tt)
-distinct_push (y ∷ xs) x d e =
-    let p = or_parts (eqb y x) (member x xs) e in
-    (member_push y x xs d.0 (λ s. eqb-false y x p.0 (sym s)), distinct_push xs x d.1 p.1)
-
-member_middle : (v x : ℕ) (xs ys : List ℕ) → member v (xs ++ x ∷ ys) ≡ false → x ≡ v → ⊥
-member_middle v x [] ys e = eqb-false x v (or_parts (eqb x v) (member v ys) e).0
-member_middle v x (y ∷ xs) ys e = member_middle v x xs ys (or_parts (eqb y v) (member v (xs ++ x ∷ ys)) e).1
-
-distinct_middle : (xs : List ℕ) (x : ℕ) (ys : List ℕ) → Distinct (xs ++ x ∷ ys) → member x xs ≡ false
-distinct_middle [] x ys d = refl
-distinct_middle (y ∷ xs) x ys d =
-    or_from (eqb y x) (member x xs) (ne_eqb y x (λ s. member_middle y x xs ys d.0 (sym s))) (distinct_middle xs x ys d.1)
-
-all_middle : {X : Type 0} (P : X → Type 0) (xs : List X) (x : X) (ys : List X) → AllByRecursion P (xs ++ x ∷ ys) → P x
-all_middle P [] x ys h = h.0
-all_middle P (y ∷ xs) x ys h = all_middle P xs x ys h.1
 
 -- what is left of proper words is proper
 pub proper_left : {ws rest : List Spelt} {c : List Literal} → ClauseText ws c rest → AllByRecursion Proper ws → AllByRecursion Proper rest
@@ -164,8 +142,8 @@ module _ (known : ℕ) (vs : List Variable) (declared : List ℕ) (H : (v : ℕ)
       let same : (done ++ l ∷ []) ++ ls ≡ done ++ l ∷ ls = append_assoc done (l ∷ []) ls in
       let few = lawful.0 in
       let new : names v done ≡ false =
-      names_member v done ∙ distinct_middle (map literal_variable done) v (map literal_variable ls) (subst Distinct (map-append literal_variable done (l ∷ ls)) lawful.1) in
-      let known_v = all_middle (λ (k : Literal). member k.variable declared ≡ true) done l ls lawful.2 in
+      names_member v done ∙ distinct_next (map literal_variable done) v (map literal_variable ls) (subst Distinct (map-append literal_variable done (l ∷ ls)) lawful.1) in
+      let known_v = all_next (λ (k : Literal). member k.variable declared ≡ true) done l ls lawful.2 in
       let rest_read = accepts t (done ++ l ∷ []) room size (subst (LawfulClause declared) (sym same) lawful) (subst (λ c. length c ≤ room) (sym same) fits) in
       let judged : add_literal known vs done room (record { negative = l.negative; value = v }) (start_of w) ≡ Ok l =
       cond-false (leb 1024 (length done)) _ _ (lt-leb 1024 (length done) (omega arith))

@@ -1,8 +1,8 @@
 // The readers with the law that they obey: a text is accepted exactly if it spells a lawful formula or circuit.
 #![tactic(auto)]
 
-ghost use Rattle.formula.specs.Reading.{formula_from, Agrees as AgreesFormula};
-ghost use Rattle.circuit.specs.Reading.{circuit_from, Agrees as AgreesCircuit};
+ghost use Rattle.formula.specs.Reading.{tables, Reads};
+ghost use Rattle.circuit.specs.Reading.{circuit_from, Agrees};
 ghost use Rattle.spelling.specs.CircuitLaw.{AcceptsCircuit};
 ghost use Rattle.spelling.specs.FormulaLaw.{Accepts};
 ghost use Rattle.std.specs.Prelude.{length};
@@ -20,8 +20,8 @@ pub fn read_formula(
     clauses: &mut [Clause],
     literals: &mut [Literal],
 ) -> Result<Head, Fault>
-    ensures is { AgreesFormula (formula_from text.now place.old.at (length vars.old) (length clauses.old) (length literals.old)) result (record { variables = vars.old; clauses = clauses.old; literals = literals.old }) (record { variables = vars.new; clauses = clauses.new; literals = literals.new }) place.old.at place.new.at }
-    ensures spelt { Accepts text.now place.old.at result (record { variables = vars.new; clauses = clauses.new; literals = literals.new }) place.new.at }
+    ensures is { Reads text.now place.old.at result (tables vars.old clauses.old literals.old) (tables vars.new clauses.new literals.new) place.new.at }
+    ensures spelt { Accepts text.now place.old.at result (tables vars.new clauses.new literals.new) place.new.at }
 {
     formula::read::read_formula(text, place, vars, clauses, literals)
 }
@@ -33,7 +33,7 @@ pub fn read_circuit(
     outputs: &mut [u32],
     gates: &mut [Gate],
 ) -> Result<CircuitHead, Fault>
-    ensures is { AgreesCircuit (circuit_from text.now place.old.at (length outputs.old) (length gates.old)) result (length outputs.old) outputs.new (length gates.old) gates.new place.old.at place.new.at }
+    ensures is { Agrees (circuit_from text.now place.old.at (length outputs.old) (length gates.old)) result (length outputs.old) outputs.new (length gates.old) gates.new place.old.at place.new.at }
     ensures spelt { AcceptsCircuit text.now place.old.at result outputs.new gates.new place.new.at }
 {
     circuit::read::read_circuit(text, place, outputs, gates)

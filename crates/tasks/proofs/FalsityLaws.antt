@@ -1,6 +1,5 @@
 -- The task for a formula and a refutation: how it ends, by what the text is read as, and what its False means.
-use Rattle.std.proofs.Common.{◌≡◌, ℕ, List, None, Ok, Err, Result, ap, ◌∙◌, subst}
-use Rattle.base.specs.declared.faults.Fault.{Fault}
+use Rattle.std.proofs.Common.{◌≡◌, ℕ, List, None, Ok, Result, ap, ◌∙◌, subst}
 use Rattle.base.specs.Causes.{Refusal}
 use Rattle.engine.specs.declared.shelf.Shelf.{Ghosts as ShelfGhosts}
 use Rattle.engine.specs.Means.{rules}
@@ -14,7 +13,6 @@ use Rattle.texts.specs.declared.rows.FormulaRows.{FormulaRows}
 use Rattle.texts.specs.Spelled.{rows_of, told_rows, ReadsFormula}
 use Rattle.texts.specs.TextRows.{formula_in}
 use Rattle.tasks.specs.declared.outcome.Outcome.{Outcome}
-use Rattle.tasks.specs.declared.outcome.Outcome.TheVariants as outcome
 use Rattle.tasks.specs.Cases.{CaseHolds}
 use Rattle.tasks.specs.Outcomes.{Ending, formula_refused, heads, case_ending, falsity_ending, told_outcome}
 use Rattle.tasks.specs.Verdicts.{Gives, TextFalse}
@@ -28,10 +26,6 @@ module _ (proof : List ℕ) (case most width : ℕ) where
   -- the outcome is the task's
   abbrev pub FalsityEnds : List ℕ → Outcome → Type 0
   FalsityEnds formula o = told_outcome o ≡ falsity_ending formula proof case most width
-
-  -- the formula is refused
-  pub formula_is_refused : (formula : List ℕ) (f : Fault) → told_rows (Err f) ≡ formula_in formula → FalsityEnds formula (outcome.FormulaRefused f)
-  formula_is_refused formula f e = ap falsity_by e
 
 -- where the outcome says False, the text is false
 abbrev pub FalsityMeans : List ℕ → Outcome → Type 0

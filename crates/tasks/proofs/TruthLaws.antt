@@ -1,6 +1,5 @@
 -- The task for a formula with circuits: how it ends, by what the texts are read as, and what its True means.
-use Rattle.std.proofs.Common.{◌≡◌, ℕ, List, Some, Ok, Err, Result, ap, ◌∙◌, subst}
-use Rattle.base.specs.declared.faults.Fault.{Fault}
+use Rattle.std.proofs.Common.{◌≡◌, ℕ, List, Some, Ok, Result, ap, ◌∙◌, subst}
 use Rattle.base.specs.Causes.{Refusal}
 use Rattle.engine.specs.declared.shelf.Shelf.{Ghosts as ShelfGhosts}
 use Rattle.engine.specs.Means.{rules}
@@ -18,7 +17,6 @@ use Rattle.texts.specs.declared.rows.FormulaRows.{FormulaRows}
 use Rattle.texts.specs.Spelled.{rows_of, circuit_rows_of, told_rows, told_circuit_rows, ReadsFormula, ReadsCircuit}
 use Rattle.texts.specs.TextRows.{formula_in, circuit_in}
 use Rattle.tasks.specs.declared.outcome.Outcome.{Outcome}
-use Rattle.tasks.specs.declared.outcome.Outcome.TheVariants as outcome
 use Rattle.tasks.specs.Cases.{CaseHolds}
 use Rattle.tasks.specs.Outcomes.{Ending, formula_refused, circuit_refused, heads, case_ending, truth_ending, told_outcome}
 use Rattle.tasks.specs.Verdicts.{Gives, TextsTrue}
@@ -37,16 +35,6 @@ module _ (proof : List ℕ) (case most width : ℕ) where
     -- the outcome is the task's
     abbrev pub TruthEnds : Outcome → Type 0
     TruthEnds o = told_outcome o ≡ truth_ending formula circuit proof case most width
-
-    -- the formula is refused
-    pub formula_is_refused : (f : Fault) → told_rows (Err f) ≡ formula_in formula → TruthEnds (outcome.FormulaRefused f)
-    formula_is_refused f e = ap (λ (o : Result RowsOfFormula Refusal). truth_by o (circuit_in circuit)) e
-
-    -- the formula is read and the circuit refused
-    pub circuit_is_refused : (rows : FormulaRows) (f : Fault) → told_rows (Ok rows) ≡ formula_in formula → told_circuit_rows (Err f) ≡ circuit_in circuit → TruthEnds (outcome.CircuitRefused rows.head f)
-    circuit_is_refused rows f e k =
-        ap (λ (q : Result RowsOfCircuit Refusal). truth_by (Ok (rows_of rows)) q) k
-        ∙ ap (λ (o : Result RowsOfFormula Refusal). truth_by o (circuit_in circuit)) e
 
 -- where the outcome says True, the texts are true
 abbrev pub TruthMeans : List ℕ → List ℕ → Outcome → Type 0

@@ -31,6 +31,7 @@ pub fn check_truth<F: Shelf + Drop, P: Progress>(
     ensures holds { IfOk result (λ o. Gives (told_outcome o) 1 → TextsTrue formula.now circuit.now) }
     ensures never { NeverBoth formula.now }
 {
+    // A text that is refused is an outcome and no error, so the fault takes no `?`.
     let rows = match formula_rows(heap, formula)? {
         Ok(rows) => rows,
         Err(fault) => return Ok(Outcome::FormulaRefused(fault)),
@@ -66,6 +67,7 @@ pub fn check_falsity<F: Shelf + Drop, P: Progress>(
     ensures holds { IfOk result (λ o. Gives (told_outcome o) 2 → TextFalse formula.now) }
     ensures never { NeverBoth formula.now }
 {
+    // A text that is refused is an outcome and no error, so the fault takes no `?`.
     let rows = match formula_rows(heap, formula)? {
         Ok(rows) => rows,
         Err(fault) => return Ok(Outcome::FormulaRefused(fault)),
@@ -79,6 +81,7 @@ pub fn check_falsity<F: Shelf + Drop, P: Progress>(
 }
 
 // Replays the proof on a side and writes the slip. Where the slip has the side's verdict, every goal is true in every world.
+// The parameters are those of `replay`, whose signature users have.
 fn check_case<S: Side + Drop, F: Shelf + Drop, P: Progress>(
     heap: Global,
     heads: Heads,
@@ -92,14 +95,11 @@ fn check_case<S: Side + Drop, F: Shelf + Drop, P: Progress>(
     ensures holds { IfOk result (λ o. CaseHolds S.Side side o) }
 {
     match replay(heap, side, shelf, case, proof, progress)? {
-        Ok(report) => {
-            let slip = write_slip(report.slip);
-            Ok(Outcome::Closed {
-                heads,
-                report,
-                slip,
-            })
-        }
+        Ok(report) => Ok(Outcome::Closed {
+            heads,
+            report,
+            slip: write_slip(report.slip),
+        }),
         Err(fault) => Ok(Outcome::OpeningRefused { heads, fault }),
     }
 }

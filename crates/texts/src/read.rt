@@ -6,9 +6,8 @@ ghost use Rattle.texts.specs.TextRows.{formula_in, circuit_in};
 
 use super::rows::{CircuitRows, FormulaRows};
 use base::faults::Fault;
-use base::values::ValueWord;
-use circuit::tables::Gate;
-use formula::tables::{Clause, Kind, Literal, Variable};
+use circuit::tables::{Gate, MAX_OUTPUTS, MAX_WIRES};
+use formula::tables::{Clause, Literal, MAX_CLAUSES, MAX_VARIABLES, Variable};
 use models::tables::{CircuitTables, FormulaTables};
 use spelling::{read_circuit, read_formula};
 use std::alloc::{AllocError, Global};
@@ -19,18 +18,11 @@ pub fn formula_rows(heap: Global, text: &[u8]) -> Result<Result<FormulaRows, Fau
     ensures is { IfOk result (λ o. told_rows o ≡ formula_in text.now) }
     ensures spelt { IfOk result (λ o. ReadsFormula text.now (told_rows o)) }
 {
-    let none = Variable {
-        kind: Kind::Undeclared,
-        position: 0,
-        dependencies: ValueWord::empty(),
-    };
-    let mut variables = vec![in heap; none; 65_535]?;
-    let mut clauses = vec![in heap; Clause { first: 0, len: 0 }; 16_384]?;
-    let mut literals = vec![in heap; Literal {
-        variable: 0,
-        negative: false
-    }; text.len() / 2]?;
-    let mut place = Place { at: 0 };
+    let mut variables = vec![in heap; Variable::default(); MAX_VARIABLES as usize]?;
+    let mut clauses = vec![in heap; Clause::default(); MAX_CLAUSES as usize]?;
+    let mut literals = vec![in heap; Literal::default(); text.len() / 2]?;
+    let mut place = Place::default();
+    // A match: a proof cannot name what a closure that takes the rows returns.
     match read_formula(
         text,
         &mut place,
@@ -53,9 +45,10 @@ pub fn circuit_rows(heap: Global, text: &[u8]) -> Result<Result<CircuitRows, Fau
     ensures is { IfOk result (λ o. told_circuit_rows o ≡ circuit_in text.now) }
     ensures spelt { IfOk result (λ o. ReadsCircuit text.now (told_circuit_rows o)) }
 {
-    let mut outputs = vec![in heap; 0u32; 4_096]?;
-    let mut gates = vec![in heap; Gate { left: 0, right: 0 }; 60_000]?;
-    let mut place = Place { at: 0 };
+    let mut outputs = vec![in heap; 0u32; MAX_OUTPUTS as usize]?;
+    let mut gates = vec![in heap; Gate::default(); MAX_WIRES as usize]?;
+    let mut place = Place::default();
+    // A match: a proof cannot name what a closure that takes the rows returns.
     match read_circuit(
         text,
         &mut place,

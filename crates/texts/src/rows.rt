@@ -1,5 +1,4 @@
-// The rows of a formula and of a circuit, owned.
-ghost use Rattle.std.specs.Prelude.{◌≡◌};
+// The rows of a formula and of a circuit, owned: two types, as their columns, readers and laws differ.
 
 use circuit::tables::{CircuitHead, Gate};
 use formula::tables::{Clause, Head, Literal, Variable};

@@ -1,4 +1,3 @@
 pub mod DueLaws
-pub mod FormLaws
 pub mod TableLaws
 pub mod WordLaws

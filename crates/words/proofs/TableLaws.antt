@@ -1,5 +1,5 @@
 -- Tables that are filled from the front, and the rest of a table that is handed on.
-use Rattle.std.proofs.Common.{◌≡◌, ℕ, ◌+◌, ◌-◌, ◌≤◌, List, ◌++◌, length, take, drop, set, replicate, sym, ap, ◌∙◌, append-nil, arith, length-append}
+use Rattle.std.proofs.Common.{◌≡◌, ℕ, zero, suc, ◌+◌, ◌-◌, ◌≤◌, List, [], ◌∷◌, ◌++◌, length, get_or, take, drop, set, replicate, sym, refl, ap, ◌∙◌, append-nil, arith, length-append}
 use lib.ListN.{length-replicate}
 use lib.Seq.{take-append-add, drop-append_seam}
 use borrow.Rule.Slice.PartMut.{put_mid}
@@ -37,6 +37,17 @@ pub padded_is : {X : Type 0} (none : X) (n room : ℕ) (xs ys : List X) → ys �
 padded_is none n room xs ys z h l e =
     sym (take-append-drop n xs)
     ∙ ap (λ t. take n xs ++ t) (e ∙ ap (drop n) z ∙ drop-replicate n room none ∙ ap (λ k. replicate (room - k) none) (sym (length-take-le n xs (omega arith))))
+
+-- an entry that is not there reads as zero, so zeros behind a table change no read of it
+pub get_or_zeros : {X : Type 0} (none : X) (n i : ℕ) → get_or (replicate n none) i none ≡ none
+get_or_zeros none zero i = refl
+get_or_zeros none (suc n) zero = refl
+get_or_zeros none (suc n) (suc i) = get_or_zeros none n i
+
+pub get_or_padded : {X : Type 0} (none : X) (xs : List X) (n i : ℕ) → get_or (xs ++ replicate n none) i none ≡ get_or xs i none
+get_or_padded none [] n i = get_or_zeros none n i
+get_or_padded none (x ∷ xs) n zero = refl
+get_or_padded none (x ∷ xs) n (suc i) = get_or_padded none xs n i
 
 -- how long a padded table is, and the same table by its own length
 pub length_padded : {X : Type 0} (none : X) (xs : List X) (n : ℕ) → length xs ≤ n → length (padded none xs n) ≡ n

@@ -1,5 +1,6 @@
 -- The words that a reader asks for, by the list of words that are left: what is read, or the refusal.
-use Rattle.std.specs.Prelude.{ℕ, ◌<◌, ◌≤◌, Bool, true, false, cond, ◌&&◌, List, [], ◌∷◌, drop, Ok, Err, Result, ◌==◌}
+use Rattle.std.specs.Prelude.{ℕ, ◌<◌, ◌≤◌, Bool, cond, List, [], ◌∷◌, drop, Ok, Err, Result, nat_lt}
+use Rattle.std.specs.Str.{bytes_eq}
 use Rattle.base.specs.declared.faults.Fault.{Fault}
 use Rattle.base.specs.Causes.{Refusal, told, refused}
 use Rattle.words.specs.declared.forms.Numeral.{Numeral}
@@ -29,6 +30,10 @@ word_form p = refused 2 p 1
 abbrev pub text_ends : ℕ → Refusal
 text_ends size = refused 4 size 1
 
+-- the answer to a text of this many bytes: with more than 16777216 it is refused, whatever it holds
+abbrev pub unless_long : {X : Type 0} → ℕ → Result X Refusal → Result X Refusal
+unless_long size answer = cond (nat_lt 16777216 size) (Err (refused 1 0 1)) answer
+
 abbrev pub no_number : List ℕ → ℕ → Refusal
 no_number bs p = refused (cond (over_nine bs) 3 2) p 1
 
@@ -48,10 +53,7 @@ literal_in (number bs p n) = Ok n
 literal_in (other bs p) = Err (no_literal bs p)
 
 abbrev pub same : List ℕ → List ℕ → Bool
-same [] [] = true
-same [] (b ∷ bs) = false
-same (a ∷ as') [] = false
-same (a ∷ as') (b ∷ bs) = a == b && same as' bs
+same = bytes_eq
 
 -- a word where this name is due
 abbrev pub name_in : List ℕ → Spelt → Result (Unit {0}) Refusal

@@ -1,5 +1,6 @@
 -- The forms of words, byte by byte.
-use Rattle.std.specs.Prelude.{ℕ, ◌+◌, ◌-◌, ◌*◌, Bool, true, false, cond, not, ◌&&◌, ◌||◌, List, [], ◌∷◌, length, drop, Some, None, Option, ◌==◌, nat_le, nat_lt, slice_index}
+use Rattle.std.specs.Prelude.{ℕ, ◌+◌, ◌-◌, ◌*◌, Bool, true, false, cond, not, ◌&&◌, ◌||◌, List, length, drop, Some, None, Option, ◌==◌, nat_le, nat_lt, slice_index}
+use Rattle.std.specs.List.{fold, list_all}
 use Rattle.words.specs.declared.forms.Numeral.{Numeral}
 
 -- space, tab, carriage return, line feed
@@ -13,17 +14,14 @@ abbrev pub digit_byte : ℕ → Bool
 digit_byte b = not (nat_lt b 48 || nat_lt 57 b)
 
 abbrev pub letters : List ℕ → Bool
-letters [] = true
-letters (b ∷ bs) = letter_byte b && letters bs
+letters bs = list_all letter_byte bs
 
 abbrev pub digits : List ℕ → Bool
-digits [] = true
-digits (b ∷ bs) = digit_byte b && digits bs
+digits bs = list_all digit_byte bs
 
 -- the value of digits behind a number that was read so far
 abbrev pub decimal : ℕ → List ℕ → ℕ
-decimal n [] = n
-decimal n (b ∷ bs) = decimal (n * 10 + (b - 48)) bs
+decimal n bs = fold (λ m b. m * 10 + (b - 48)) n bs
 
 abbrev pub begins_with_zero : List ℕ → Bool
 begins_with_zero bs = slice_index bs 0 == 48

@@ -10,10 +10,6 @@ pub data Spelt : Type 0 where
   number : List ℕ → ℕ → Numeral → Spelt
   other : List ℕ → ℕ → Spelt
 
--- how many blanks stand in front
-abbrev pub blanks : List ℕ → ℕ
-blanks bs = prefix_len blank bs
-
 -- how many bytes that are no blanks stand in front
 abbrev pub inked : List ℕ → ℕ
 inked bs = prefix_len (λ b. not (blank b)) bs

@@ -1,6 +1,6 @@
 // The forms of words: blanks, letters, digits and numbers.
 ghost use Rattle.std.specs.Prelude.{◌≡◌};
-ghost use Rattle.words.specs.Forms.{blank, letters, over_nine, number_value, numeral_value};
+ghost use Rattle.words.specs.Forms.{blank, letters, digits, over_nine, number_value, numeral_value};
 
 // A number with its sign. A minus stands only before a number that is not 0.
 #[derive(Clone, Copy, PartialEq, Eq, Debug)]
@@ -20,42 +20,33 @@ pub(crate) fn is_blank(b: u8) -> bool
 pub(crate) fn is_letters(word: &[u8]) -> bool
     ensures { result ≡ letters word.now }
 {
-    for b in word {
-        if *b < b'a' || *b > b'z' {
-            return false;
-        }
-    }
-    true
+    word.iter().all(|b| b.is_ascii_lowercase())
+}
+
+fn is_digits(word: &[u8]) -> bool
+    ensures { result ≡ digits word.now }
+{
+    word.iter().all(|b| b.is_ascii_digit())
 }
 
 // Whether the word is a number of ten or more digits, the first not 0.
 pub(crate) fn is_over_nine(word: &[u8]) -> bool
     ensures { result ≡ over_nine word.now }
 {
-    if word.len() <= 9 || word[0] == b'0' {
-        return false;
-    }
-    for b in word {
-        if *b < b'0' || *b > b'9' {
-            return false;
-        }
-    }
-    true
+    word.len() > 9 && word[0] != b'0' && is_digits(word)
 }
 
 // The value of a number: 0, or up to nine digits that do not begin with 0.
 pub(crate) fn number_of(word: &[u8]) -> Option<u32>
     ensures { result ≡ number_value word.now }
 {
-    if word.len() == 0 || word.len() > 9 || word.len() > 1 && word[0] == b'0' {
+    if matches!(word, [] | [b'0', _, ..]) || word.len() > 9 {
         return None;
     }
-    let mut n: u32 = 0;
+    // A loop: with `try_fold` a proof does not see that the value fits, a fact about how many digits were read.
+    let mut n = 0;
     for b in word {
-        if *b < b'0' || *b > b'9' {
-            return None;
-        }
-        n = n * 10 + (*b - b'0') as u32;
+        n = n * 10 + char::from(*b).to_digit(10)?;
     }
     Some(n)
 }
@@ -64,19 +55,14 @@ pub(crate) fn number_of(word: &[u8]) -> Option<u32>
 pub(crate) fn numeral_of(word: &[u8]) -> Option<Numeral>
     ensures { result ≡ numeral_value word.now }
 {
-    if word.len() > 0 && word[0] == b'-' {
-        let value = number_of(&word[1..])?;
-        if value == 0 {
-            return None;
-        }
-        return Some(Numeral {
+    match word {
+        [b'-', rest @ ..] => number_of(rest).filter(|n| *n != 0).map(|value| Numeral {
             negative: true,
             value,
-        });
+        }),
+        _ => number_of(word).map(|value| Numeral {
+            negative: false,
+            value,
+        }),
     }
-    let value = number_of(word)?;
-    Some(Numeral {
-        negative: false,
-        value,
-    })
 }

@@ -1,11 +1,15 @@
 // A word: a longest run of bytes that are no blanks, handed out as a stretch of the caller's text.
-ghost use Rattle.std.specs.Prelude.{◌≡◌, ◌+◌, ◌<◌, ◌≤◌, length, drop};
+ghost use Rattle.std.specs.Prelude.{◌≡◌, not, length, position, Ok};
 ghost use Rattle.std.specs.Option.{option_map};
-ghost use Rattle.words.specs.Words.{blanks, inked, classed, words_from, listed, Onward};
+ghost use Rattle.base.specs.Causes.{answered};
+ghost use Rattle.words.specs.Forms.{blank};
+ghost use Rattle.words.specs.Words.{classed, words_from, listed, Onward};
 ghost use Rattle.words.specs.Seen.{seen};
+ghost use Rattle.words.specs.Due.{unless_long};
 
 use super::forms::{Numeral, is_blank, is_letters, numeral_of};
 use super::place::Place;
+use base::faults::{Cause, Fault, Layer};
 
 // The most bytes that a text may have.
 pub const LONGEST_TEXT: usize = 16_777_216;
@@ -18,37 +22,38 @@ pub enum Word<'a> {
     Other(&'a [u8], usize),
 }
 
-fn skip_blanks(text: &[u8], place: usize) -> usize
-    ensures is { result ≡ place + blanks (drop place text.now) }
+// Refuses a text that is too long, before any of it is read.
+pub fn check_length(text: &[u8]) -> Result<(), Fault>
+    ensures { answered result ≡ unless_long (length text.now) (Ok tt) }
 {
-    let mut at = place;
-    while at < text.len() && is_blank(text[at]) {
-        at += 1;
+    if text.len() > LONGEST_TEXT {
+        return Err(Layer::Words.fault(Cause::TextTooLong, 0));
     }
-    at
+    Ok(())
 }
 
-fn word_end(text: &[u8], place: usize) -> usize
-    ensures is { result ≡ place + inked (drop place text.now) }
-    ensures within { (place ≤ result) × (place < result → result ≤ length text.now) }
+// Where the first word begins, if there is one.
+fn first_ink(bytes: &[u8]) -> Option<usize>
+    ensures { result ≡ position (λ b. not (blank b)) bytes.now }
 {
-    let mut at = place;
-    while at < text.len() && !is_blank(text[at]) {
-        at += 1;
-    }
-    at
+    bytes.iter().position(|b| !is_blank(*b))
+}
+
+// Where the first blank stands, if there is one.
+fn first_blank(bytes: &[u8]) -> Option<usize>
+    ensures { result ≡ position blank bytes.now }
+{
+    bytes.iter().position(|b| is_blank(*b))
 }
 
 fn classify(word: &[u8], place: usize) -> Word
     ensures { seen result ≡ classed word.now place }
 {
-    if let Some(numeral) = numeral_of(word) {
-        return Word::Number(word, place, numeral);
+    match numeral_of(word) {
+        Some(numeral) => Word::Number(word, place, numeral),
+        None if is_letters(word) => Word::Letter(word, place),
+        None => Word::Other(word, place),
     }
-    if is_letters(word) {
-        return Word::Letter(word, place);
-    }
-    Word::Other(word, place)
 }
 
 // The next word, with the place moved to its end; none where only blanks are left.
@@ -56,11 +61,11 @@ pub fn take_word<'a>(text: &'a [u8], place: &mut Place) -> Option<Word<'a>>
     ensures is { words_from text.now place.old.at ≡ listed (option_map seen result) (words_from text.now place.new.at) }
     ensures onward { Onward (option_map seen result) place.old.at place.new.at (length text.now) }
 {
-    let start = skip_blanks(text, place.at);
-    let end = word_end(text, start);
-    place.at = end;
-    if start == end {
-        return None;
-    }
-    Some(classify(&text[start..end], start))
+    let left = text.get(place.at..)?;
+    let blanks = first_ink(left)?;
+    let word = &left[blanks..];
+    let len = first_blank(word).unwrap_or(word.len());
+    let start = place.at + blanks;
+    place.at = start + len;
+    Some(classify(&word[..len], start))
 }

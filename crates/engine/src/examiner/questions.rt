@@ -34,15 +34,11 @@ impl<S: Side, F: Shelf> Examiner<S, F> {
     pub fn settled_count(&self) -> u32
         ensures { result ≡ settled_count (state_of S.Side F.Shelf self.now) (S.Side.goals self.now.side) }
     {
-        let goals = self.side.goal_count();
-        let settled = self.settled.as_slice();
-        let mut count = 0;
-        for i in 0..goals {
-            if settled[i as usize] {
-                count += 1;
-            }
-        }
-        count
+        let goals = self.side.goal_count() as usize;
+        self.settled[..goals]
+            .iter()
+            .filter(|settled| **settled)
+            .count() as u32
     }
 }
 
@@ -50,9 +46,10 @@ impl<S: Side, F: Shelf> Examiner<S, F> {
 pub fn entries_on<F: Shelf>(shelf: &F) -> u32
     ensures { result ≡ entries_in (F.Shelf.list shelf.now) }
 {
+    // A loop: a proof does not find what a range yields through `map` and `sum`.
     let mut total = 0;
-    for i in 0..shelf.count() {
-        total += shelf.length(i + 1);
+    for number in 1..=shelf.count() {
+        total += shelf.length(number);
     }
     total
 }

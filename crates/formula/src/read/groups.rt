@@ -3,18 +3,18 @@ ghost use Rattle.std.specs.Prelude.{◌≡◌, ◌<◌, ◌≤◌, length, OnOk}
 ghost use Rattle.words.specs.Words.{words_from};
 ghost use Rattle.words.specs.Due.{Further};
 ghost use Rattle.base.specs.Causes.{answered};
-ghost use Rattle.formula.specs.Groups.{fresh, declared, told_declared, add_universal, add_existential, add_listed, add_dependency, group_in, inside, went, followed, groups_from, Begins, told_groups, nothing_declared, Where};
+ghost use Rattle.formula.specs.Groups.{fresh, declared, add_in, add_dependency, group_in, inside, followed, groups_at, Begins, nothing_declared, Where};
 
-use super::super::tables::{Kind, Variable};
-use super::formula_fault;
-use base::faults::{Cause, Fault};
+use super::super::lookup::variable;
+use super::super::tables::{Kind, MAX_EXISTENTIALS, MAX_UNIVERSALS, Variable};
+use base::faults::{Cause, Fault, Layer};
 use base::values::ValueWord;
 use words::due::read_number;
 use words::place::Place;
 use words::word::{Word, take_word};
 
 // How many universals and existentials are declared so far.
-#[derive(Clone, Copy, PartialEq, Eq, Debug)]
+#[derive(Clone, Copy, PartialEq, Eq, Debug, Default)]
 pub(crate) struct Counts {
     pub(crate) universals: u32,
     pub(crate) existentials: u32,
@@ -33,6 +33,7 @@ pub(crate) enum Group {
     Dependent,
 }
 
+// The group that a word begins. That it begins none is no error: the clauses follow.
 fn group_of(word: &[u8]) -> Option<Group>
     ensures { result ≡ group_in word.now }
 {
@@ -45,138 +46,91 @@ fn group_of(word: &[u8]) -> Option<Group>
 }
 
 // A variable that is declared has to be one of the formula's, and not declared before.
-fn check_fresh(vars: &[Variable], known: u32, v: u32, at: usize) -> Result<(), Fault>
-    requires { known ≤ length vars.now }
-    ensures is { answered result ≡ fresh known vars.now v at }
-    ensures within { OnOk result ((0 < v) × (v ≤ known)) }
+fn check_fresh(vars: &[Variable], v: u32, at: usize) -> Result<(), Fault>
+    ensures is { answered result ≡ fresh (length vars.now) vars.now v at }
+    ensures above { OnOk result (0 < v) }
+    ensures within { OnOk result (v ≤ length vars.now) }
 {
-    if v == 0 || v > known {
-        return Err(formula_fault(Cause::VariableUnfit, at));
+    let record = variable(vars, v).ok_or(Layer::Formula.fault(Cause::VariableUnfit, at))?;
+    if record.kind != Kind::Undeclared {
+        return Err(Layer::Formula.fault(Cause::VariableTwice, at));
     }
-    match vars[v as usize - 1].kind {
-        Kind::Undeclared => Ok(()),
-        Kind::Universal => Err(formula_fault(Cause::VariableTwice, at)),
-        Kind::Existential => Err(formula_fault(Cause::VariableTwice, at)),
-    }
+    Ok(())
 }
 
-// Declares v, which stands at a place, as the next universal.
-fn declare_universal(
+// Declares v, which stands at a place, in a group. An existential of a list depends on every universal declared so
+// far; one with dependencies of its own has none yet.
+fn declare(
     vars: &mut [Variable],
-    known: u32,
     counts: Counts,
+    group: Group,
     v: u32,
     at: usize,
 ) -> Result<Counts, Fault>
-    requires { known ≤ length vars.old }
-    ensures { told_declared result vars.new ≡ add_universal known (declared counts vars.old) v at }
+    ensures is { followed result (λ c. Ok (declared c vars.new)) ≡ add_in group (length vars.old) (declared counts vars.old) v at }
+    ensures above { OnOk result (0 < v) }
+    ensures within { OnOk result (v ≤ length vars.old) }
 {
-    if counts.universals >= 64 {
-        return Err(formula_fault(Cause::FormulaLimit, at));
-    }
-    check_fresh(vars, known, v, at)?;
-    let universals = counts.universals + 1;
-    vars[v as usize - 1] = Variable {
-        kind: Kind::Universal,
-        position: universals,
-        dependencies: ValueWord::empty(),
+    let (quantifier, dependencies) = match group {
+        Group::Listed(Quantifier::Universal) => (Quantifier::Universal, ValueWord::empty()),
+        Group::Listed(Quantifier::Existential) => (
+            Quantifier::Existential,
+            ValueWord::first(counts.universals),
+        ),
+        Group::Dependent => (Quantifier::Existential, ValueWord::empty()),
     };
-    Ok(Counts {
-        universals,
-        existentials: counts.existentials,
-    })
-}
-
-// Declares v, which stands at a place, as the next existential, with these dependencies.
-fn declare_existential(
-    vars: &mut [Variable],
-    known: u32,
-    counts: Counts,
-    dependencies: ValueWord,
-    v: u32,
-    at: usize,
-) -> Result<Counts, Fault>
-    requires { known ≤ length vars.old }
-    ensures is { told_declared result vars.new ≡ add_existential known (declared counts vars.old) dependencies v at }
-    ensures within { OnOk result ((0 < v) × (v ≤ known)) }
-{
-    if counts.existentials >= 4_096 {
-        return Err(formula_fault(Cause::FormulaLimit, at));
+    let (kind, count, limit) = match quantifier {
+        Quantifier::Universal => (Kind::Universal, counts.universals, MAX_UNIVERSALS),
+        Quantifier::Existential => (Kind::Existential, counts.existentials, MAX_EXISTENTIALS),
+    };
+    if count >= limit {
+        return Err(Layer::Formula.fault(Cause::FormulaLimit, at));
     }
-    check_fresh(vars, known, v, at)?;
-    let existentials = counts.existentials + 1;
+    check_fresh(vars, v, at)?;
+    let position = count + 1;
     vars[v as usize - 1] = Variable {
-        kind: Kind::Existential,
-        position: existentials,
+        kind,
+        position,
         dependencies,
     };
-    Ok(Counts {
-        universals: counts.universals,
-        existentials,
+    Ok(match quantifier {
+        Quantifier::Universal => Counts {
+            universals: position,
+            ..counts
+        },
+        Quantifier::Existential => Counts {
+            existentials: position,
+            ..counts
+        },
     })
 }
 
 // Lets the existential v depend on u, which stands at a place.
-fn declare_dependency(
-    vars: &mut [Variable],
-    known: u32,
-    counts: Counts,
-    v: u32,
-    u: u32,
-    at: usize,
-) -> Result<(), Fault>
-    requires { (known ≤ length vars.old) × ((0 < v) × (v ≤ known)) }
-    ensures { went result (declared counts vars.new) ≡ add_dependency known (declared counts vars.old) v u at }
+fn declare_dependency(vars: &mut [Variable], v: u32, u: u32, at: usize) -> Result<(), Fault>
+    requires above { 0 < v }
+    requires within { v ≤ length vars.old }
+    ensures { (c : Counts) → followed result (λ _. Ok (declared c vars.new)) ≡ add_dependency (length vars.old) (declared c vars.old) v u at }
 {
-    if u == 0 || u > known {
-        return Err(formula_fault(Cause::VariableUnfit, at));
-    }
-    let universal = vars[u as usize - 1];
-    let Kind::Universal = universal.kind else {
-        return Err(formula_fault(Cause::VariableUnfit, at));
+    let Some(universal) = variable(vars, u).filter(|x| x.kind == Kind::Universal) else {
+        return Err(Layer::Formula.fault(Cause::VariableUnfit, at));
     };
-    if vars[v as usize - 1].dependencies.has(universal.position) {
-        return Err(formula_fault(Cause::VariableTwice, at));
+    let dependencies = &mut vars[v as usize - 1].dependencies;
+    if dependencies.has(universal.position) {
+        return Err(Layer::Formula.fault(Cause::VariableTwice, at));
     }
-    let dependencies = vars[v as usize - 1]
-        .dependencies
-        .union(ValueWord::single(universal.position));
-    vars[v as usize - 1].dependencies = dependencies;
+    *dependencies = dependencies.union(ValueWord::single(universal.position));
     Ok(())
-}
-
-// Declares v under a quantifier; an existential so declared depends on every universal declared so far.
-fn declare(
-    vars: &mut [Variable],
-    known: u32,
-    counts: Counts,
-    quantifier: Quantifier,
-    v: u32,
-    at: usize,
-) -> Result<Counts, Fault>
-    requires { known ≤ length vars.old }
-    ensures { told_declared result vars.new ≡ add_listed quantifier known (declared counts vars.old) v at }
-{
-    match quantifier {
-        Quantifier::Universal => declare_universal(vars, known, counts, v, at),
-        Quantifier::Existential => {
-            let dependencies = ValueWord::first(counts.universals);
-            declare_existential(vars, known, counts, dependencies, v, at)
-        }
-    }
 }
 
 // The rest of an `a` or an `e` group, up to its 0.
 fn read_listed(
     text: &[u8],
     place: &mut Place,
-    known: u32,
+    vars: &mut [Variable],
     counts: Counts,
     quantifier: Quantifier,
-    vars: &mut [Variable],
 ) -> Result<Counts, Fault>
-    requires { known ≤ length vars.old }
-    ensures is { followed result (λ c. groups_from known Where.outside (declared c vars.new) (words_from text.now place.new.at) place.new.at (length text.now)) ≡ groups_from known (Where.listed quantifier) (declared counts vars.old) (words_from text.now place.old.at) place.old.at (length text.now) }
+    ensures is { followed result (λ c. groups_at text.now place.new.at Where.outside (declared c vars.new)) ≡ groups_at text.now place.old.at (Where.listed quantifier) (declared counts vars.old) }
     ensures onward { OnOk result (Further place.old.at place.new.at (length text.now)) }
 {
     let mut counts = counts;
@@ -185,7 +139,7 @@ fn read_listed(
         if v == 0 {
             return Ok(counts);
         }
-        counts = declare(vars, known, counts, quantifier, v, at)?;
+        counts = declare(vars, counts, Group::Listed(quantifier), v, at)?;
     }
 }
 
@@ -193,13 +147,12 @@ fn read_listed(
 fn read_dependencies(
     text: &[u8],
     place: &mut Place,
-    known: u32,
-    counts: Counts,
-    v: u32,
     vars: &mut [Variable],
+    v: u32,
 ) -> Result<(), Fault>
-    requires { (known ≤ length vars.old) × ((0 < v) × (v ≤ known)) }
-    ensures is { followed result (λ _. groups_from known Where.outside (declared counts vars.new) (words_from text.now place.new.at) place.new.at (length text.now)) ≡ groups_from known (Where.dependencies v) (declared counts vars.old) (words_from text.now place.old.at) place.old.at (length text.now) }
+    requires above { 0 < v }
+    requires within { v ≤ length vars.old }
+    ensures is { (c : Counts) → followed result (λ _. groups_at text.now place.new.at Where.outside (declared c vars.new)) ≡ groups_at text.now place.old.at (Where.dependencies v) (declared c vars.old) }
     ensures onward { OnOk result (Further place.old.at place.new.at (length text.now)) }
 {
     loop {
@@ -207,7 +160,7 @@ fn read_dependencies(
         if u == 0 {
             return Ok(());
         }
-        declare_dependency(vars, known, counts, v, u, at)?;
+        declare_dependency(vars, v, u, at)?;
     }
 }
 
@@ -215,17 +168,15 @@ fn read_dependencies(
 fn read_dependent(
     text: &[u8],
     place: &mut Place,
-    known: u32,
-    counts: Counts,
     vars: &mut [Variable],
+    counts: Counts,
 ) -> Result<Counts, Fault>
-    requires { known ≤ length vars.old }
-    ensures is { followed result (λ c. groups_from known Where.outside (declared c vars.new) (words_from text.now place.new.at) place.new.at (length text.now)) ≡ groups_from known Where.dependent (declared counts vars.old) (words_from text.now place.old.at) place.old.at (length text.now) }
+    ensures is { followed result (λ c. groups_at text.now place.new.at Where.outside (declared c vars.new)) ≡ groups_at text.now place.old.at Where.dependent (declared counts vars.old) }
     ensures onward { OnOk result (Further place.old.at place.new.at (length text.now)) }
 {
     let (v, at) = read_number(text, place)?;
-    let counts = declare_existential(vars, known, counts, ValueWord::empty(), v, at)?;
-    read_dependencies(text, place, known, counts, v, vars)?;
+    let counts = declare(vars, counts, Group::Dependent, v, at)?;
+    read_dependencies(text, place, vars, v)?;
     Ok(counts)
 }
 
@@ -233,18 +184,16 @@ fn read_dependent(
 fn read_group(
     text: &[u8],
     place: &mut Place,
-    known: u32,
+    vars: &mut [Variable],
     counts: Counts,
     group: Group,
-    vars: &mut [Variable],
 ) -> Result<Counts, Fault>
-    requires { known ≤ length vars.old }
-    ensures is { followed result (λ c. groups_from known Where.outside (declared c vars.new) (words_from text.now place.new.at) place.new.at (length text.now)) ≡ groups_from known (inside group) (declared counts vars.old) (words_from text.now place.old.at) place.old.at (length text.now) }
+    ensures is { followed result (λ c. groups_at text.now place.new.at Where.outside (declared c vars.new)) ≡ groups_at text.now place.old.at (inside group) (declared counts vars.old) }
     ensures onward { OnOk result (Further place.old.at place.new.at (length text.now)) }
 {
     match group {
-        Group::Listed(quantifier) => read_listed(text, place, known, counts, quantifier, vars),
-        Group::Dependent => read_dependent(text, place, known, counts, vars),
+        Group::Listed(quantifier) => read_listed(text, place, vars, counts, quantifier),
+        Group::Dependent => read_dependent(text, place, vars, counts),
     }
 }
 
@@ -254,34 +203,25 @@ fn next_group(text: &[u8], place: &mut Place) -> Option<Group>
     ensures is { Begins result (words_from text.now place.old.at) (words_from text.now place.new.at) place.old.at place.new.at (length text.now) }
 {
     let mut ahead = *place;
-    match take_word(text, &mut ahead) {
-        Some(Word::Letter(word, _)) => {
-            let group = group_of(word)?;
-            *place = ahead;
-            Some(group)
-        }
-        Some(Word::Number(_, _, _)) => None,
-        Some(Word::Other(_, _)) => None,
-        None => None,
-    }
+    let Some(Word::Letter(word, _)) = take_word(text, &mut ahead) else {
+        return None;
+    };
+    let group = group_of(word)?;
+    *place = ahead;
+    Some(group)
 }
 
-// Groups up to the first word that begins none.
+// Groups up to the first word that begins none, over the table of the formula's variables.
 pub(crate) fn read_groups(
     text: &[u8],
     place: &mut Place,
-    known: u32,
     vars: &mut [Variable],
 ) -> Result<Counts, Fault>
-    requires { known ≤ length vars.old }
-    ensures { told_groups result vars.new (words_from text.now place.new.at) place.new.at ≡ groups_from known Where.outside (nothing_declared vars.old) (words_from text.now place.old.at) place.old.at (length text.now) }
+    ensures { followed result (λ c. Ok (declared c vars.new, words_from text.now place.new.at, place.new.at)) ≡ groups_at text.now place.old.at Where.outside (nothing_declared vars.old) }
 {
-    let mut counts = Counts {
-        universals: 0,
-        existentials: 0,
-    };
+    let mut counts = Counts::default();
     while let Some(group) = next_group(text, place) {
-        counts = read_group(text, place, known, counts, group, vars)?;
+        counts = read_group(text, place, vars, counts, group)?;
     }
     Ok(counts)
 }

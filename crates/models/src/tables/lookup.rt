@@ -1,20 +1,14 @@
 // What lent tables hold: whether a reading leaves them, the clauses and the variables' records.
-ghost use Rattle.std.specs.Prelude.{◌≡◌, ◌≤◌, true};
-ghost use Rattle.models.specs.HeldTables.{formula_rows, circuit_rows, lawful_formula, lawful_circuit, record_at, span_at, clause_of, Held, HeldCircuit};
+ghost use Rattle.std.specs.Prelude.{◌≡◌, true};
+ghost use Rattle.models.specs.HeldTables.{formula_rows, circuit_rows, lawful_formula, lawful_circuit, record_at, clause_of, Held, HeldCircuit};
 ghost use Rattle.spelling.specs.CircuitGrammar.{Aig};
 ghost use Rattle.spelling.specs.Dqbf.{Dqbf};
 
 use super::{CircuitTables, FormulaTables};
 use audit::circuits::audit_circuit;
 use audit::formulas::audit_formula;
-use base::values::ValueWord;
-use formula::tables::{Clause, Kind, Literal, Variable};
-
-const UNDECLARED: Variable = Variable {
-    kind: Kind::Undeclared,
-    position: 0,
-    dependencies: ValueWord { bits: 0 },
-};
+use formula::lookup::variable;
+use formula::tables::{Literal, MAX_LITERALS, Variable};
 
 impl<'a> FormulaTables<'a> {
     // Whether an accepted reading leaves these tables; they then hold a lawful formula.
@@ -29,42 +23,26 @@ impl<'a> FormulaTables<'a> {
     pub fn variable(&self, number: u32) -> Variable
         ensures { result ≡ record_at self.now.variables.now number }
     {
-        if number == 0 {
-            return UNDECLARED;
-        }
-        match self.variables.get(number as usize - 1) {
-            Some(variable) => *variable,
-            None => UNDECLARED,
-        }
-    }
-
-    // Where a clause stands among the literals; nowhere where there is no such clause.
-    fn span(&self, number: u32) -> Clause
-        requires { 1 ≤ number }
-        ensures { result ≡ span_at self.now.clauses.now number }
-    {
-        match self.clauses.get(number as usize - 1) {
-            Some(span) => *span,
-            None => Clause { first: 0, len: 0 },
-        }
+        variable(self.variables, number).unwrap_or_default()
     }
 
     // The literals of a clause, by its number from 1; none where there is no such clause.
     pub fn clause(&self, number: u32) -> &[Literal]
         ensures { result.now ≡ clause_of (formula_rows self.now) number }
     {
-        if number == 0 {
-            return &self.literals[0..0];
+        if number == 0 || number > self.head.clauses {
+            return &[];
         }
-        if number > self.head.clauses {
-            return &self.literals[0..0];
-        }
-        let span = self.span(number);
-        let from = (span.first as usize).min(self.literals.len());
-        let count = (span.len as usize)
-            .min(1_024)
-            .min(self.literals.len() - from);
-        &self.literals[from..from + count]
+        let span = self
+            .clauses
+            .get(number as usize - 1)
+            .copied()
+            .unwrap_or_default();
+        let Some(rest) = self.literals.get(span.first as usize..) else {
+            return &[];
+        };
+        let len = (span.len as usize).min(MAX_LITERALS).min(rest.len());
+        &rest[..len]
     }
 }
 

@@ -5,6 +5,7 @@ use Rattle.reach.proofs.fill_reaches.Given as goal
 
 abbrev pub invariant-loop-g : goal.invariant-loop-g
 invariant-loop-g l =
-    (reaches_from l.head.inputs (take l.g l.reaches) (drop l.g (take l.count l.gates))
-    ≡ reaches_from l.head.inputs [] (take l.count l.gates))
-    × (drop l.g l.reaches ≡ drop l.g l.initial.reaches)
+    record {
+      filled : reaches_from l.head.inputs (take l.g l.reaches) (drop l.g (take l.count l.gates)) ≡ reaches_from l.head.inputs [] (take l.count l.gates);
+      rest : drop l.g l.reaches ≡ drop l.g l.initial.reaches;
+    }

@@ -2,10 +2,11 @@ use Rattle.std.proofs.Common.{rules}
 use Rattle.audit.proofs.FormulaAuditLaw.{formula_audited}
 use Rattle.audit.proofs.formulas.audit_formula.Goals as goal
 
--- src/formulas.rt:213:1
 pub returns-then-lawful_variables : goal.returns-then-lawful_variables
-returns-then-lawful_variables c = record { is = search rules; lawful = formula_audited c.args.head c.args.vars.now c.args.clauses.now c.args.literals.now (search rules) }
+returns-then-lawful_variables c = record { is = search rules; lawful = formula_audited _ _ _ _ (search rules) }
 
--- src/formulas.rt:213:1
 pub returns-else-lawful_variables : goal.returns-else-lawful_variables
-returns-else-lawful_variables c = record { is = search rules; lawful = formula_audited c.args.head c.args.vars.now c.args.clauses.now c.args.literals.now (search rules) }
+returns-else-lawful_variables c = record { is = search rules; lawful = formula_audited _ _ _ _ (search rules) }
+
+pub returns-then-not-lawful_head-clause-lawful : goal.returns-then-not-lawful_head-clause-lawful
+returns-then-not-lawful_head-clause-lawful c = formula_audited _ _ _ _ (search rules)

@@ -1,18 +1,18 @@
-use Rattle.std.proofs.Common.{rules}
-use Rattle.audit.proofs.TurnLaws.{literals_step, literals_all, marks_more}
+use Rattle.std.proofs.Common.{◌∙◌, ◌≤◌, length, get_or, ap, sym, arith, rules, take}
+use Rattle.std.proofs.lemmas.List.{take_more}
+use Rattle.formula.specs.Clauses.{names}
+use Rattle.formula.specs.Reading.{no_literal}
+use Rattle.formula.proofs.ClauseLaws.{marks_push}
+use Rattle.audit.proofs.TurnLaws.{literals_step}
 use Rattle.audit.proofs.formulas.lawful_clause.Goals as goal
 
-pub returns-then-v-eq0 : goal.returns-then-v-eq0
-returns-then-v-eq0 c = search (rules, literals_step)
-
-pub returns-in-Undeclared : goal.returns-in-Undeclared
-returns-in-Undeclared c = search (rules, literals_step)
-
-pub returns-then-marks-v : goal.returns-then-marks-v
-returns-then-marks-v c = search (rules, literals_step)
-
 pub loop-literal-preserved : goal.loop-literal-preserved
-loop-literal-preserved c = search (rules, literals_step, marks_more)
-
-pub returns : goal.returns
-returns c = search (rules, literals_all)
+loop-literal-preserved c =
+    let i = c.loop-literal.literal-index in
+    let ls = c.args.literals.now in
+    let before = c.loop-literal.invariant.marked in
+    let known : (get_or ls i no_literal).variable ≤ length c.args.declared.now = search rules in
+    record {
+      rest = search (rules, literals_step, before);
+      marked = λ v. marks_push (take i ls) _ _ _ (omega (arith, known)) before c.add.ensures v ∙ ap (names v) (sym (take_more ls i no_literal (omega arith)));
+    }

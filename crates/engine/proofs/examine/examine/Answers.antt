@@ -18,6 +18,6 @@ returns g c =
     record {
       examined =
           run_examined g.S.Side g.F.Shelf c.run.result c.args.calls.now c.args.answers.now c.run.new.answers c.in_ok-examiner.examiner c.run.new.examiner c.run.ensures.runs
-          c.args.side c.args.shelf made.0 made.1 made.2 c.run.ensures.count;
+          c.args.side c.args.shelf made.rules made.state made.side c.run.ensures.count;
       lawful = all_runs_lawful (rules g.S.Side g.F.Shelf c.args.side c.args.shelf) (g.S.Side.few c.args.side);
     }

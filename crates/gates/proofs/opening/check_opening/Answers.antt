@@ -1,13 +1,8 @@
-use Rattle.std.proofs.Common.{◌≡◌, Ok, sym, subst, rules}
+-- Circuits that are opened read only what they may.
+use Rattle.std.proofs.Common.{rules}
 use Rattle.models.specs.HeldTables.{formula_rows, circuit_rows}
-use Rattle.gates.specs.CircuitWorlds.{OpensRight}
-use Rattle.gates.specs.Wiring.{truth_opening}
-use Rattle.gates.proofs.OpeningLaws.{opens_right}
+use Rattle.gates.proofs.OpeningLaws.{opening_right}
 use Rattle.gates.proofs.opening.check_opening.Goals as goal
 
-pub returns : goal.returns
-returns c =
-    let t = formula_rows c.args.formula.now in
-    let k = circuit_rows c.args.circuit.now in
-    let is : Ok tt ≡ truth_opening t k = search rules in
-    record { is = is; right = subst (λ r. OpensRight r t k) (sym is) (opens_right t k) }
+pub returns-clause-right : goal.returns-clause-right
+returns-clause-right c = opening_right (formula_rows c.args.formula.now) (circuit_rows c.args.circuit.now) (search rules)

@@ -1,60 +1,50 @@
-use Rattle.std.proofs.Common.{◌≡◌, true, false, ◌++◌, get_or, drop, Err, refl, arith, rules}
-use Rattle.base.specs.declared.values.ValueWord.{ValueWord}
-use Rattle.base.specs.Causes.{told}
-use Rattle.records.specs.declared.step.Premise.TheVariants.{Truth, Falsity}
-use Rattle.records.specs.declared.step.Step.{Step}
-use Rattle.records.specs.declared.step.Step.TheVariants.{Resolve, Settle}
-use Rattle.records.specs.declared.step.Step.TheVariants as step
-use Rattle.records.specs.Records.{Fits, begins, record_of, step_from, rest_from}
-use Rattle.records.proofs.RecordLaws.{truth_whole, falsity_whole, resolve_whole, settle_whole, accepts_step, accepts_rest, accepts_law, refuses}
+use Rattle.std.proofs.Common.{◌≡◌, true, false, refl, rules}
+use Rattle.std.proofs.lemmas.List.{take_rest}
+use Rattle.std.proofs.lemmas.Nat.{be_bytes_2, be_bytes_4, be_bytes_8}
+use Rattle.records.specs.Records.{begins}
+use Rattle.records.proofs.ByteLaws.{elements, elements_bytes}
+use Rattle.records.proofs.RecordLaws.{long_record}
 use Rattle.records.proofs.record.read_record.Goals as goal
 
--- Each arm: the bytes are the record of its step and what stands behind.
-pub returns-in-0 : goal.returns-in-0
-returns-in-0 c =
-    let bs = c.args.bytes.now in
-    let kind : begins bs 6 1 ≡ true = search rules in
-    let s : Step = step.Premise (Truth (get_or bs 4 0) c.u16_of-in-0.result (get_or bs 7 0)) in
-    let fits : Fits s = (omega (arith, c.type_inv.bytes 4), c.u16_of-in-0.type_inv, omega (arith, c.type_inv.bytes 7)) in
-    let whole : bs ≡ record_of s ++ drop 8 bs = truth_whole bs c.u16_of-in-0.result kind c.u16_of-in-0.ensures in
-    record { is = accepts_step bs 8 s fits whole; rest = accepts_rest bs 8 s fits whole; law = accepts_law bs 8 s fits whole }
-
-pub returns-in-0-2 : goal.returns-in-0-2
-returns-in-0-2 c =
+pub returns-in-0-2-clause-law : goal.returns-in-0-2-clause-law
+returns-in-0-2-clause-law c =
     let bs = c.args.bytes.now in
     let kind : begins bs 12 2 ≡ true = search rules in
-    let values : ValueWord = record { bits = c.u64_of.result } in
-    let s : Step = step.Premise (Falsity c.u16_of.result values) in
-    let fits : Fits s = (c.u16_of.type_inv, c.u64_of.type_inv) in
-    let whole : bs ≡ record_of s ++ drop 14 bs = falsity_whole bs c.u16_of.result values kind c.u16_of.ensures c.u64_of.ensures in
-    record { is = accepts_step bs 14 s fits whole; rest = accepts_rest bs 14 s fits whole; law = accepts_law bs 14 s fits whole }
+    let whole = long_record bs 2 kind in
+    let clause = be_bytes_2 (elements bs 4 2) c.from_be_bytes.result refl (elements_bytes bs 4 2 c.type_inv.bytes) c.from_be_bytes.ensures in
+    let values = be_bytes_8 (elements bs 6 8) c.from_be_bytes-in-0-2.result refl (elements_bytes bs 6 8 c.type_inv.bytes) c.from_be_bytes-in-0-2.ensures in
+    ((c.from_be_bytes.type_inv, c.from_be_bytes-in-0-2.type_inv), (cc))
 
-pub returns-in-0-3 : goal.returns-in-0-3
-returns-in-0-3 c =
+pub returns-in-0-3-clause-law : goal.returns-in-0-3-clause-law
+returns-in-0-3-clause-law c =
     let bs = c.args.bytes.now in
     let kind : begins bs 12 3 ≡ true = search rules in
-    let s : Step = Resolve c.u32_of.result c.u32_of-in-0-3.result c.u16_of-in-0-3.result in
-    let fits : Fits s = (c.u32_of.type_inv, c.u32_of-in-0-3.type_inv, c.u16_of-in-0-3.type_inv) in
-    let whole : bs ≡ record_of s ++ drop 14 bs = resolve_whole bs c.u32_of.result c.u32_of-in-0-3.result c.u16_of-in-0-3.result kind c.u32_of.ensures c.u32_of-in-0-3.ensures c.u16_of-in-0-3.ensures in
-    record { is = accepts_step bs 14 s fits whole; rest = accepts_rest bs 14 s fits whole; law = accepts_law bs 14 s fits whole }
+    let whole = long_record bs 3 kind in
+    let first = be_bytes_4 (elements bs 4 4) c.from_be_bytes-in-0-3.result refl (elements_bytes bs 4 4 c.type_inv.bytes) c.from_be_bytes-in-0-3.ensures in
+    let second = be_bytes_4 (elements bs 8 4) c.from_be_bytes-in-0-3-2.result refl (elements_bytes bs 8 4 c.type_inv.bytes) c.from_be_bytes-in-0-3-2.ensures in
+    let position = be_bytes_2 (elements bs 12 2) c.from_be_bytes-in-0-3-3.result refl (elements_bytes bs 12 2 c.type_inv.bytes) c.from_be_bytes-in-0-3-3.ensures in
+    ((c.from_be_bytes-in-0-3.type_inv, c.from_be_bytes-in-0-3-2.type_inv, c.from_be_bytes-in-0-3-3.type_inv), (cc))
 
-pub returns-in-0-4 : goal.returns-in-0-4
-returns-in-0-4 c =
-    let bs = c.args.bytes.now in
-    let kind : begins bs 8 4 ≡ true = search rules in
-    let s : Step = Settle c.u16_of-in-0-4.result c.u32_of-in-0-4.result in
-    let fits : Fits s = (c.u16_of-in-0-4.type_inv, c.u32_of-in-0-4.type_inv) in
-    let whole : bs ≡ record_of s ++ drop 10 bs = settle_whole bs c.u16_of-in-0-4.result c.u32_of-in-0-4.result kind c.u16_of-in-0-4.ensures c.u32_of-in-0-4.ensures in
-    record { is = accepts_step bs 10 s fits whole; rest = accepts_rest bs 10 s fits whole; law = accepts_law bs 10 s fits whole }
+pub returns-in-0-clause-rest : goal.returns-in-0-clause-rest
+returns-in-0-clause-rest c =
+    let kind : begins c.args.bytes.now 6 1 ≡ true = search rules in
+    rw (take_rest, kind)
 
--- The last arm: no record of any kind stands in front.
-pub returns-in_default : goal.returns-in_default
-returns-in_default c =
+-- no record of any kind stands in front
+pub returns-in_default-clause-is : goal.returns-in_default-clause-is
+returns-in_default-clause-is c =
     let bs = c.args.bytes.now in
     let truth : begins bs 6 1 ≡ false = search rules in
     let falsity : begins bs 12 2 ≡ false = search rules in
     let resolve : begins bs 12 3 ≡ false = search rules in
     let settle : begins bs 8 4 ≡ false = search rules in
-    let is : Err (told c.malformed.result) ≡ step_from bs = rw (truth, falsity, resolve, settle, c.malformed.ensures) in
-    let rest : bs ≡ rest_from bs = rw (truth, falsity, resolve, settle) in
-    record { is = is; rest = rest; law = (c.malformed.ensures, refl, refuses bs (told c.malformed.result) is) }
+    rw (truth, falsity, resolve, settle, c.fault.ensures)
+
+pub returns-in_default-clause-rest : goal.returns-in_default-clause-rest
+returns-in_default-clause-rest c =
+    let bs = c.args.bytes.now in
+    let truth : begins bs 6 1 ≡ false = search rules in
+    let falsity : begins bs 12 2 ≡ false = search rules in
+    let resolve : begins bs 12 3 ≡ false = search rules in
+    let settle : begins bs 8 4 ≡ false = search rules in
+    rw (truth, falsity, resolve, settle)

@@ -1,34 +1,18 @@
 -- What the text is read as, and the case that is replayed on it, give the outcome of the task.
 use Rattle.std.proofs.Common.{Result, sym, ap, ◌∙◌, subst}
-use Rattle.std.proofs.lemmas.Result.{IfOk-from_err, IfOk-weaker}
+use Rattle.std.proofs.lemmas.Result.{IfOk-weaker}
 use Rattle.base.specs.declared.faults.Fault.{Fault}
 use Rattle.texts.specs.declared.rows.FormulaRows.{FormulaRows}
 use Rattle.models.specs.HeldTables.{formula_rows}
 use Rattle.texts.specs.Spelled.{told_rows, ReadsFormula}
-use Rattle.tasks.proofs.FalsityLaws.{FalsityEnds, FalsityMeans, FalsityRead, formula_is_refused, falsity_case, falsity_means}
+use Rattle.tasks.proofs.FalsityLaws.{FalsityRead, falsity_case, falsity_means}
 use Rattle.tasks.proofs.NeverLaws.{never_both_texts}
 use Rattle.tasks.proofs.task.check_falsity.Given as given
 use Rattle.tasks.proofs.task.check_falsity.Goals as goal
 use Rattle.tasks.proofs.task.check_falsity.Goals.{After-check_case}
 
-pub returns-in_err-rows : goal.returns-in_err-rows
-returns-in_err-rows g c =
-    let failed = c.from_residual.ensures.0 in
-    let r = c.from_residual.result in
-    record {
-      is = IfOk-from_err r (FalsityEnds c.args.proof.now c.args.case (g.F.Shelf.K c.args.shelf) (g.F.Shelf.W c.args.shelf) c.args.formula.now) failed;
-      holds = IfOk-from_err r (FalsityMeans c.args.formula.now) failed;
-      never = never_both_texts c.args.formula.now;
-    }
-
-pub returns-in-Err : goal.returns-in-Err
-returns-in-Err g c =
-    record {
-      is = formula_is_refused c.args.proof.now c.args.case (g.F.Shelf.K c.args.shelf) (g.F.Shelf.W c.args.shelf) c.args.formula.now c.in-Err.fault
-          (ap told_rows (sym c.in-Err.is) ∙ c.in_ok-rows.ensures.is);
-      holds = λ e. absurd e;
-      never = never_both_texts c.args.formula.now;
-    }
+pub returns-in_err-rows-clause-never : goal.returns-in_err-rows-clause-never
+returns-in_err-rows-clause-never g c = never_both_texts c.args.formula.now
 
 -- what was read and lent before the case
 read : (g : given.Over) (c : After-check_case g) → FalsityRead c.args.formula.now c.in-Ok.rows c.new-side.result

@@ -1,55 +1,25 @@
 -- What the texts are read as, and the case that is replayed on them, give the outcome of the task.
 use Rattle.std.proofs.Common.{Result, sym, ap, ◌∙◌, subst}
-use Rattle.std.proofs.lemmas.Result.{IfOk-from_err, IfOk-weaker}
+use Rattle.std.proofs.lemmas.Result.{IfOk-weaker}
 use Rattle.base.specs.declared.faults.Fault.{Fault}
 use Rattle.texts.specs.declared.rows.CircuitRows.{CircuitRows}
 use Rattle.texts.specs.declared.rows.FormulaRows.{FormulaRows}
 use Rattle.models.specs.HeldTables.{formula_rows, circuit_rows}
 use Rattle.texts.specs.Spelled.{told_rows, told_circuit_rows, ReadsFormula, ReadsCircuit}
 use Rattle.tasks.proofs.NeverLaws.{never_both_texts}
-use Rattle.tasks.proofs.TruthLaws.{TruthEnds, TruthMeans, TruthRead, formula_is_refused, circuit_is_refused, truth_case, truth_means}
+use Rattle.tasks.proofs.TruthLaws.{TruthRead, truth_case, truth_means}
 use Rattle.tasks.proofs.task.check_truth.Given as given
 use Rattle.tasks.proofs.task.check_truth.Goals as goal
 use Rattle.tasks.proofs.task.check_truth.Goals.{After-check_case}
 
-pub returns-in_err-rows : goal.returns-in_err-rows
-returns-in_err-rows g c =
-    let failed = c.from_residual.ensures.0 in
-    let r = c.from_residual.result in
-    record {
-      is = IfOk-from_err r (TruthEnds c.args.proof.now c.args.case (g.F.Shelf.K c.args.shelf) (g.F.Shelf.W c.args.shelf) c.args.formula.now c.args.circuit.now) failed;
-      holds = IfOk-from_err r (TruthMeans c.args.formula.now c.args.circuit.now) failed;
-      never = never_both_texts c.args.formula.now;
-    }
+pub returns-in_err-rows-clause-never : goal.returns-in_err-rows-clause-never
+returns-in_err-rows-clause-never g c = never_both_texts c.args.formula.now
 
-pub returns-in-Err : goal.returns-in-Err
-returns-in-Err g c =
-    record {
-      is = formula_is_refused c.args.proof.now c.args.case (g.F.Shelf.K c.args.shelf) (g.F.Shelf.W c.args.shelf) c.args.formula.now c.args.circuit.now c.in-Err.fault
-          (ap told_rows (sym c.in-Err.is) ∙ c.in_ok-rows.ensures.is);
-      holds = λ e. absurd e;
-      never = never_both_texts c.args.formula.now;
-    }
+pub returns-in_err-circuits-clause-never : goal.returns-in_err-circuits-clause-never
+returns-in_err-circuits-clause-never g c = never_both_texts c.args.formula.now
 
-pub returns-in_err-circuits : goal.returns-in_err-circuits
-returns-in_err-circuits g c =
-    let failed = c.from_residual-in_err-circuits.ensures.0 in
-    let r = c.from_residual-in_err-circuits.result in
-    record {
-      is = IfOk-from_err r (TruthEnds c.args.proof.now c.args.case (g.F.Shelf.K c.args.shelf) (g.F.Shelf.W c.args.shelf) c.args.formula.now c.args.circuit.now) failed;
-      holds = IfOk-from_err r (TruthMeans c.args.formula.now c.args.circuit.now) failed;
-      never = never_both_texts c.args.formula.now;
-    }
-
-pub returns-in-Err-2 : goal.returns-in-Err-2
-returns-in-Err-2 g c =
-    record {
-      is = circuit_is_refused c.args.proof.now c.args.case (g.F.Shelf.K c.args.shelf) (g.F.Shelf.W c.args.shelf) c.args.formula.now c.args.circuit.now c.in-Ok.rows c.in-Err-2.fault
-          (ap told_rows (sym c.in-Ok.is) ∙ c.in_ok-rows.ensures.is)
-          (ap told_circuit_rows (sym c.in-Err-2.is) ∙ c.in_ok-circuits.ensures.is);
-      holds = λ e. absurd e;
-      never = never_both_texts c.args.formula.now;
-    }
+pub returns-in-Err-2-clause-never : goal.returns-in-Err-2-clause-never
+returns-in-Err-2-clause-never g c = never_both_texts c.args.formula.now
 
 -- what was read and lent before the case
 read : (g : given.Over) (c : After-check_case g) → TruthRead c.args.formula.now c.args.circuit.now c.in-Ok.rows c.in-Ok-2.circuits c.new-side.result

@@ -1,16 +1,9 @@
-use Rattle.std.proofs.Common.{Ok, sym, ap, ◌∙◌, subst, ap₂}
+use Rattle.std.proofs.Common.{Ok, sym, ap, ◌∙◌, rules, subst, ap₂}
 use Rattle.std.proofs.lemmas.List.{with_items_is}
-use Rattle.std.proofs.lemmas.Result.{IfOk-from_err}
 use Rattle.models.specs.HeldTables.{RowsOfCircuit}
 use Rattle.texts.specs.Spelled.{ReadsCircuit}
 use Rattle.texts.proofs.CircuitRead.{circuit_rows_in, accepted_rows, refused_rows, accepted_reads, refused_reads}
 use Rattle.texts.proofs.read.circuit_rows.Goals as goal
-
-pub returns-in_err-gates : goal.returns-in_err-gates
-returns-in_err-gates c =
-    let failed = c.from_residual-in_err-gates.ensures.0 in
-    let r = c.from_residual-in_err-gates.result in
-    record { is = IfOk-from_err r _ failed; spelt = IfOk-from_err r _ failed }
 
 pub returns-in-Ok : goal.returns-in-Ok
 returns-in-Ok c =
@@ -26,8 +19,8 @@ returns-in-Ok c =
     (with_items_is c.in_ok-gates.gates gs (c.read_circuit.auto.gates ∙ gs-long)) in
     record {
       is = ap Ok same
-          ∙ accepted_rows text _ _ os gs place (os-long ∙ c.in_ok-outputs.ensures.len) (gs-long ∙ c.in_ok-gates.ensures.len) head c.in-Ok.ensures.is;
-      spelt = subst (λ (t : RowsOfCircuit). ReadsCircuit text (Ok t)) (sym same) (accepted_reads text os gs place head c.in-Ok.ensures.spelt);
+          ∙ accepted_rows text _ _ os gs place (os-long ∙ c.in_ok-outputs.ensures.len) (gs-long ∙ c.in_ok-gates.ensures.len) head (search rules);
+      spelt = subst (λ (t : RowsOfCircuit). ReadsCircuit text (Ok t)) (sym same) (accepted_reads text os gs place head (search rules));
     }
 
 pub returns-in-Err : goal.returns-in-Err
@@ -40,6 +33,6 @@ returns-in-Err c =
     let os-long = c.as_mut_slice.ensures.len ∙ c.in_ok-outputs.ensures.len in
     let gs-long = c.as_mut_slice-2.ensures.len ∙ c.in_ok-gates.ensures.len in
     record {
-      is = refused_rows text _ _ os gs place os-long gs-long fault c.in-Err.ensures.is;
-      spelt = refused_reads text os gs place fault (c.read_circuit.auto.outputs ∙ os-long) (c.read_circuit.auto.gates ∙ gs-long) c.in-Err.ensures.spelt;
+      is = refused_rows text _ _ os gs place os-long gs-long fault (search rules);
+      spelt = refused_reads text os gs place fault (c.read_circuit.auto.outputs ∙ os-long) (c.read_circuit.auto.gates ∙ gs-long) (rw c.default-place.ensures at c.in-Err.ensures.spelt);
     }

@@ -1,24 +1,11 @@
-use Rattle.std.proofs.Common.{Ok, sym, ap, ◌∙◌, subst}
+use Rattle.std.proofs.Common.{Ok, sym, ap, ◌∙◌, rules, subst}
 use Rattle.std.proofs.lemmas.List.{with_items_is}
-use Rattle.std.proofs.lemmas.Result.{IfOk-from_err}
 use Rattle.formula.specs.Reading.{Tables}
 use Rattle.models.specs.HeldTables.{RowsOfFormula}
 use Rattle.texts.specs.Spelled.{ReadsFormula}
 use Rattle.texts.proofs.FormulaRead.{Lent, rows_same, accepted_rows, refused_rows, accepted_reads, refused_reads}
 use Rattle.texts.proofs.read.formula_rows.Goals as goal
 use Rattle.texts.proofs.read.formula_rows.Goals.{After-read_formula}
-
-pub returns-in_err-clauses : goal.returns-in_err-clauses
-returns-in_err-clauses c =
-    let failed = c.from_residual-in_err-clauses.ensures.0 in
-    let r = c.from_residual-in_err-clauses.result in
-    record { is = IfOk-from_err r _ failed; spelt = IfOk-from_err r _ failed }
-
-pub returns-in_err-literals : goal.returns-in_err-literals
-returns-in_err-literals c =
-    let failed = c.from_residual-in_err-literals.ensures.0 in
-    let r = c.from_residual-in_err-literals.result in
-    record { is = IfOk-from_err r _ failed; spelt = IfOk-from_err r _ failed }
 
 -- the tables that the reader was lent, before and after
 abbrev was : After-read_formula → Tables
@@ -50,8 +37,8 @@ returns-in-Ok c =
     (with_items_is c.in_ok-clauses.clauses c.read_formula.new.clauses (c.read_formula.auto.clauses ∙ c.as_mut_slice-2.ensures.len))
     (with_items_is c.in_ok-literals.literals c.read_formula.new.literals (c.read_formula.auto.literals ∙ c.as_mut_slice-3.ensures.len)) in
     record {
-      is = ap Ok same ∙ accepted_rows text (was r) (is r) place (lent r) head c.in-Ok.ensures.is;
-      spelt = subst (λ (t : RowsOfFormula). ReadsFormula text (Ok t)) (sym same) (accepted_reads text (is r) place head c.in-Ok.ensures.spelt);
+      is = ap Ok same ∙ accepted_rows text (was r) (is r) place (lent r) head (search rules);
+      spelt = subst (λ (t : RowsOfFormula). ReadsFormula text (Ok t)) (sym same) (accepted_reads text (is r) place head (search rules));
     }
 
 pub returns-in-Err : goal.returns-in-Err
@@ -61,6 +48,6 @@ returns-in-Err c =
     let place = c.read_formula.new.place.at in
     let r = (goal.at.returns-in-Err c).After-read_formula in
     record {
-      is = refused_rows text (was r) (is r) place (lent r) fault c.in-Err.ensures.is;
-      spelt = refused_reads text (was r) (is r) place (lent r) fault c.in-Err.ensures.spelt;
+      is = refused_rows text (was r) (is r) place (lent r) fault (search rules);
+      spelt = refused_reads text (was r) (is r) place (lent r) fault (search rules);
     }

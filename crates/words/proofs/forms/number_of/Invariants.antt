@@ -4,6 +4,8 @@ use Rattle.words.proofs.forms.number_of.Given as goal
 
 abbrev pub invariant-loop-b : goal.invariant-loop-b
 invariant-loop-b l =
-    (digits (drop l.b-index l.word) ≡ digits l.word)
-    × (decimal l.n (drop l.b-index l.word) ≡ decimal 0 l.word)
-    × (l.n < 10 ^ l.b-index)
+    record {
+      all : digits (drop l.b-index l.word) ≡ digits l.word;
+      value : decimal l.n (drop l.b-index l.word) ≡ decimal 0 l.word;
+      few : l.n < 10 ^ l.b-index;
+    }

@@ -1,24 +1,25 @@
-use Rattle.std.proofs.Common.{◌≡◌, ◌+◌, ◌-◌, ◌<◌, ◌≤◌, ◌∷◌, length, take, drop, sym, ap, ◌∙◌, arith}
-use Rattle.std.proofs.lemmas.List.{length-take-le, length-drop}
-use Rattle.words.specs.Words.{words_from, end_of}
-use Rattle.words.proofs.WordLaws.{words_none, words_more, end_classed}
+use Rattle.std.proofs.Common.{◌+◌, ◌-◌, ◌∷◌, length, take, drop, refl, sym, ap, ◌∙◌, arith}
+use Rattle.std.specs.Option.{option_map, unwrap_or}
+use Rattle.std.proofs.lemmas.List.{length-take-le}
+use Rattle.words.specs.Words.{words_from, end_of, listed}
+use Rattle.words.specs.Seen.{seen}
+use Rattle.words.proofs.WordLaws.{no_word_left, word_left, end_classed}
 use Rattle.words.proofs.word.take_word.Goals as goal
 
-pub returns-then-start-end : goal.returns-then-start-end
-returns-then-start-end c = record { is = words_none _ _ _ c.skip_blanks-start.ensures.is (c.if-start-end.true ∙ c.word_end-end.ensures.is); onward = tt }
+pub returns-in_err-blanks-clause-is : goal.returns-in_err-blanks-clause-is
+returns-in_err-blanks-clause-is c =
+    no_word_left c.args.text.now c.in_ok-left.left.now c.args.place.now.at c.in_ok-left.ensures.lookup.0.2 c.in_err-blanks.ensures
+    ∙ sym (ap (λ o. listed (option_map seen o) (words_from c.args.text.now c.args.place.now.at)) c.from_residual-in_err-blanks.ensures)
 
 pub returns : goal.returns
 returns c =
-    let text = c.args.text.now in
-    let s = c.skip_blanks-start.result in
-    let q = c.word_end-end.result in
-    let w = c.word_end-end.ensures.within in
-    let ne = c.if-start-end.false in
-    let lt : s < q = omega (arith, w.0) in
-    let le : q ≤ length text = w.1 lt in
-    let long : length (take (q - s) (drop s text)) ≡ q - s = length-take-le _ _ (omega (arith, length-drop s text)) in
-    let end : s + length (take (q - s) (drop s text)) ≡ q = omega arith in
+    let left = c.in_ok-left.left.now in
+    let k = c.in_ok-blanks.blanks in
+    let n = c.unwrap_or-len.result in
+    let start = c.args.place.now.at + k in
+    let word = take (length left - k) (drop k left) in
+    let w = word_left c.args.text.now left c.args.place.now.at c.in_ok-left.ensures.lookup.0.2 k n c.in_ok-blanks.ensures word refl (c.unwrap_or-len.ensures ∙ ap (λ o. unwrap_or o (length word)) c.first_blank.ensures) in
     record {
-      is = words_more _ _ s q c.skip_blanks-start.ensures.is c.word_end-end.ensures.is ne ∙ ap (λ v. v ∷ words_from text q) (sym c.classify.ensures);
-      onward = (omega (arith, c.skip_blanks-start.ensures.is), le, sym (ap end_of c.classify.ensures ∙ end_classed (take (q - s) (drop s text)) s ∙ end));
+      is = w.3 ∙ ap (λ v. v ∷ words_from c.args.text.now (start + n)) (sym c.classify.ensures);
+      onward = (omega arith, omega arith, sym (ap end_of c.classify.ensures ∙ end_classed (take n word) start ∙ ap (λ m. start + m) (length-take-le n word w.1)));
     }

@@ -1,18 +1,20 @@
-use Rattle.std.proofs.Common.{◌+◌, arith}
-use Rattle.linked.proofs.ReadLaws.{place_below, next_place, read_entry}
+use Rattle.std.proofs.Common.{◌+◌, get_or, refl, ap, ◌∙◌, ◌%◌, arith}
+use Rattle.linked.specs.declared.blocks.Block.{Block}
+use Rattle.engine.specs.Shelves.{no_entry}
+use Rattle.linked.proofs.ReadLaws.{reading_below, reading_next, read_entry}
 use Rattle.linked.proofs.pool.Pool.entry.Goals as goal
 
-pub follower-place-requires : goal.follower-place-requires
-follower-place-requires c = place_below c.args.self.now c.args.clause c.requires.within c.loop-k._k c.loop-k.place (omega arith) c.loop-k.invariant.0
+pub block-requires : goal.block-requires
+block-requires c = reading_below c.args.self.now c.args.clause c.loop.counter c.loop.place c.loop.invariant (omega arith) c.requires.within
 
-pub loop-k-preserved : goal.loop-k-preserved
-loop-k-preserved c =
-    (next_place c.args.self.now.blocks.items c.args.clause.head c.loop-k._k (c.loop-k._k + 1) c.loop-k.place c.follower-place.result (omega arith) c.loop-k.invariant.0 c.follower-place.ensures, omega arith)
+pub loop-preserved : goal.loop-preserved
+loop-preserved c =
+    reading_next c.args.self.now c.args.clause c.loop.counter c.loop.place c.loop.invariant (omega arith) (c.loop.counter + 1) c.block.result.now.next refl (ap (λ (x : Block). x.next) c.block.ensures)
 
-pub index-requires : goal.index-requires
-index-requires c = place_below c.args.self.now c.args.clause c.requires.within c.loop-k._k c.loop-k.place (omega arith) c.loop-k.invariant.0
+pub block-requires-2 : goal.block-requires-2
+block-requires-2 c = reading_below c.args.self.now c.args.clause c.loop.counter c.loop.place c.loop.invariant (omega arith) c.requires.within
 
 pub returns : goal.returns
 returns c =
-    let below = place_below c.args.self.now c.args.clause c.requires.within c.loop-k._k c.loop-k.place (omega arith) c.loop-k.invariant.0 in
-    read_entry c.args.self.now c.args.clause c.args.index c.loop-k._k c.loop-k.place c.index.result.now c.requires.index (omega arith) c.loop-k.invariant.0 c.index.ensures below
+    ap (λ (x : Block). get_or x.entries (c.args.index % 4) no_entry) c.block-2.ensures
+    ∙ read_entry c.args.self.now c.args.clause c.args.index c.loop.counter c.loop.place c.loop.invariant (omega arith) c.requires.index

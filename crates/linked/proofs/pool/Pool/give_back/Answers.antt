@@ -1,11 +1,13 @@
-use Rattle.std.proofs.Common.{refl, arith}
-use Rattle.linked.proofs.MoveLaws.{returned_one}
+use Rattle.std.proofs.Common.{refl}
+use Rattle.linked.proofs.MoveLaws.{put_once, returned_one}
 use Rattle.linked.proofs.pool.Pool.give_back.Goals as goal
 
-pub returns : goal.returns
-returns c =
+pub invariant_of-self-clause-once : goal.invariant_of-self-clause-once
+invariant_of-self-clause-once c =
     let p = c.args.self.now in
-    record {
-      next = c.follower-next.ensures;
-      returned = returned_one p _ c.args.place _ c.requires.sound c.requires.below c.requires.apart p.blocks.ok.0 refl (omega arith) refl refl (omega arith) (omega arith);
-    }
+    put_once p.blocks.items p.blocks.len p.free p.spare c.args.place _ c.requires.below p.blocks.ok.0 c.requires.apart refl p.once
+
+pub returns-clause-returned : goal.returns-clause-returned
+returns-clause-returned c =
+    let p = c.args.self.now in
+    returned_one p _ c.args.place _ c.requires.below c.requires.apart p.blocks.ok.0 refl refl refl refl refl refl

@@ -1,25 +1,11 @@
-use Rattle.std.proofs.Common.{◌≡◌, ◌-◌, ◌<◌, ◌⊎◌, length, sym, ap, ◌∙◌, subst, inl, inr, arith}
+use Rattle.std.proofs.Common.{◌≡◌, get_or, sym, subst, rules}
 use Rattle.linked.specs.declared.blocks.Chain.{Chain}
-use Rattle.linked.specs.Chains.{clause_of}
 use Rattle.linked.specs.Moves.{Within}
-use Rattle.linked.proofs.IndexLaws.{clause_found, clause_missing}
 use Rattle.linked.proofs.ShelfLaws.{shelf_within}
 use Rattle.linked.proofs.shelf.LinkedShelf.find.Goals as goal
 
-pub returns-then-n-eq0 : goal.returns-then-n-eq0
-returns-then-n-eq0 c =
+pub returns-clause-within : goal.returns-clause-within
+returns-clause-within c =
     let was = c.args.self.now in
-    let out : (c.args.number ≡ 0) ⊎ (length was.index.items < c.args.number) = elim c.then-n-eq0.either [ inl z ↦ inl z | inr h ↦ inr (omega arith) ] in
-    record { is = clause_missing was.pool.blocks.items was.index.items c.args.number out; within = λ b. omega arith }
-
-pub returns : goal.returns
-returns c =
-    let was = c.args.self.now in
-    let x = c.index.result.now in
-    let n = c.args.number in
-    let below : n - 1 < was.index.len = omega arith in
-    let is = c.index.ensures in
-    record {
-      is = ap (clause_of was.pool.blocks.items) is ∙ clause_found was.pool.blocks.items was.index.items n x (omega arith) (omega arith);
-      within = subst (λ (r : Chain). Within was.pool r) (sym is) (shelf_within was.pool was.index.items was.apart (n - 1) x (omega arith));
-    }
+    let is : c.unwrap_or_default.result ≡ get_or was.index.items c.in-Some.at (record { head = 0; length = 0 }) = search rules in
+    subst (λ (r : Chain). Within was.pool r) (sym is) (shelf_within was.pool was.index.items was.apart c.in-Some.at)

@@ -1,41 +1,49 @@
-use Rattle.std.proofs.Common.{◌≡◌, ◌-◌, ◌<◌, ◌⊎◌, length, drop, sym, inl, inr, arith, length-take}
-use Rattle.shelves.proofs.Pieces.{clause_low, clause_high, clause_lies, clause_none}
+use Rattle.std.proofs.Common.{◌≡◌, ◌<◌, length, get_or, sym, ap, ◌∙◌, arith}
+use Rattle.shelves.proofs.Pieces.{clause_piece, clause_none, piece_low, piece_high}
 use Rattle.shelves.proofs.flat.FlatShelf.clause.Goals as goal
 
-pub returns-then-n-eq0 : goal.returns-then-n-eq0
-returns-then-n-eq0 c =
+pub returns-in_default-get-clause-is : goal.returns-in_default-get-clause-is
+returns-in_default-get-clause-is c =
     let was = c.args.self.now in
-    let out : (c.args.number ≡ 0) ⊎ (length was.ends.items < c.args.number) = elim c.then-n-eq0.either [ inl z ↦ inl z | inr h ↦ inr (omega arith) ] in
-    record { is = sym (clause_none was.ends.items was.entries.items c.args.number out); short = omega arith }
+    let past = c.in_default-get.ensures.lookup.3 in
+    sym (clause_none was.ends.items was.entries.items c.args.number c.in-Some.index (omega arith) (omega arith))
 
-pub offset_bounds-as_slice-from : goal.offset_bounds-as_slice-from
-offset_bounds-as_slice-from c =
+pub offset_bounds-as_slice-start : goal.offset_bounds-as_slice-start
+offset_bounds-as_slice-start c =
     let was = c.args.self.now in
-    let high = clause_high was.ends.items was.entries.items was.entries.len was.rise (c.args.number - 1) (omega arith) in
+    let here : c.in-Some.index < length was.ends.items = omega (arith, c.in-Some-get.ensures.lookup.3.0) in
+    let low = piece_low 0 was.ends.items was.entries.len c.in-Some.index was.rise here in
+    let high = piece_high 0 was.ends.items was.entries.len c.in-Some.index was.rise here in
     omega arith
 
-pub slice_bounds-result-count-2 : goal.slice_bounds-result-count-2
-slice_bounds-result-count-2 c =
+pub slice_bounds-result-count : goal.slice_bounds-result-count
+slice_bounds-result-count c =
     let was = c.args.self.now in
-    let low = clause_low was.ends.items was.entries.items was.entries.len was.rise c.args.number (omega arith) (omega arith) in
+    let here : c.in-Some.index < length was.ends.items = omega (arith, c.in-Some-get.ensures.lookup.3.0) in
+    let at : c.in-Some-get.end.now ≡ get_or was.ends.items c.in-Some.index 0 = c.in-Some-get.ensures.lookup.3.1 0 ∙ ap (λ l. get_or l c.in-Some.index 0) c.deref.ensures.value in
+    let low = piece_low 0 was.ends.items was.entries.len c.in-Some.index was.rise here in
     omega arith
 
-pub slice_bounds-result-start-2 : goal.slice_bounds-result-start-2
-slice_bounds-result-start-2 c =
+pub slice_bounds-result-start : goal.slice_bounds-result-start
+slice_bounds-result-start c =
     let was = c.args.self.now in
-    let low = clause_low was.ends.items was.entries.items was.entries.len was.rise c.args.number (omega arith) (omega arith) in
+    let here : c.in-Some.index < length was.ends.items = omega (arith, c.in-Some-get.ensures.lookup.3.0) in
+    let at : c.in-Some-get.end.now ≡ get_or was.ends.items c.in-Some.index 0 = c.in-Some-get.ensures.lookup.3.1 0 ∙ ap (λ l. get_or l c.in-Some.index 0) c.deref.ensures.value in
+    let low = piece_low 0 was.ends.items was.entries.len c.in-Some.index was.rise here in
     omega arith
 
 pub slice_bounds-result-end-2 : goal.slice_bounds-result-end-2
 slice_bounds-result-end-2 c =
     let was = c.args.self.now in
-    let high = clause_high was.ends.items was.entries.items was.entries.len was.rise c.args.number (omega arith) in
+    let here : c.in-Some.index < length was.ends.items = omega (arith, c.in-Some-get.ensures.lookup.3.0) in
+    let at : c.in-Some-get.end.now ≡ get_or was.ends.items c.in-Some.index 0 = c.in-Some-get.ensures.lookup.3.1 0 ∙ ap (λ l. get_or l c.in-Some.index 0) c.deref.ensures.value in
+    let high = piece_high 0 was.ends.items was.entries.len c.in-Some.index was.rise here in
     omega arith
 
-pub returns : goal.returns
-returns c =
+pub returns-clause-is : goal.returns-clause-is
+returns-clause-is c =
     let was = c.args.self.now in
-    let lies = clause_lies was.ends.items was.entries.items was.entries.len was.rise c.args.number (omega arith) (omega arith) in
-    let high = clause_high was.ends.items was.entries.items was.entries.len was.rise c.args.number (omega arith) in
-    let long = length-take (c.end-to.result - c.end-from.result) (drop c.end-from.result c.as_slice-2.result.now) in
-    record { is = (cc); short = omega arith }
+    let here : c.in-Some.index < length was.ends.items = omega (arith, c.in-Some-get.ensures.lookup.3.0) in
+    let at : c.in-Some-get.end.now ≡ get_or was.ends.items c.in-Some.index 0 = c.in-Some-get.ensures.lookup.3.1 0 ∙ ap (λ l. get_or l c.in-Some.index 0) c.deref.ensures.value in
+    let is = clause_piece was.ends.items was.entries.items c.args.number c.in-Some.index (omega arith) here in
+    cc

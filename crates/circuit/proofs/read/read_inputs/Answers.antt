@@ -1,9 +1,0 @@
-use Rattle.std.proofs.Common.{rules}
-use Rattle.circuit.proofs.CountLaws.{one_left}
-use Rattle.circuit.proofs.read.read_inputs.Goals as goal
-
-pub returns-in_err-read_exact : goal.returns-in_err-read_exact
-returns-in_err-read_exact c = let less = one_left c.args.inputs c.loop-i.i c.loop-i-test.true in search rules
-
-pub loop-i-preserved : goal.loop-i-preserved
-loop-i-preserved c = let less = one_left c.args.inputs c.loop-i.i c.loop-i-test.true in search rules
