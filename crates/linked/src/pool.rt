@@ -138,7 +138,7 @@ impl Pool {
     {
         let n = (clause.length as usize).min(row.len());
         let mut place = clause.head;
-        // Entry by entry: clauses are short, and `copy_from_slice` for each block is slower.
+        // Entry by entry: behind a loop over `chunks_mut` a proof does not know what was written.
         for (k, entry) in row[..n].iter_mut().enumerate() {
             let block = self.block(place);
             *entry = block.entries[k % 4];
