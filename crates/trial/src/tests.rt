@@ -1,5 +1,6 @@
 // Examiners of the trial side, call by call.
 use super::TrialSide;
+use super::script::settle_first;
 use base::faults::{Cause, Fault, Layer};
 use base::values::ValueWord;
 use clauses::entry::Entry;
@@ -320,5 +321,29 @@ fn small_shelves(rt: HostRuntime) -> Result<(), Fail> {
     let ticket = examiner.open(1)?;
     assert_eq!(rt; examiner.shelf().count(), 0);
     let _ = examiner.close(ticket);
+    Ok(())
+}
+
+// The slip that the engine's promises tell, on a shelf with room for the clause and on one without.
+#[test]
+fn a_case_with_one_goal(rt: HostRuntime) -> Result<(), Fail> {
+    let heap = rt.alloc();
+    let slip = settle_first(heap, shelf(heap, 1, 1)?, 7)?;
+    assert_eq!(rt;
+        slip,
+        Some(Slip::True {
+            case: 7,
+            clauses: 1
+        })
+    );
+    let slip = settle_first(heap, shelf(heap, 1, 0)?, 7)?;
+    assert_eq!(rt;
+        slip,
+        Some(Slip::Unproved {
+            case: 7,
+            clauses: 0,
+            goal: 1
+        })
+    );
     Ok(())
 }
