@@ -8,12 +8,7 @@
 # entries that a shelf of 16,000,000 holds no proof of more than some 25,000 records. A time is the processor time of the whole
 # process, user and system. The status is 1 where the program takes more than one and a half times the plain program's time, or
 # the linked shelf more than one and a half times the flat one's; times below 20 ms are too short to be held to that.
-set -eu
-cd "$(dirname "$0")/.."
-program=$PWD/crates/jumpweft/out/jumpweft
-[ -x "$program" ] || { echo "bench: no $program: run rt ci first" >&2; exit 2; }
-folder=$(mktemp -d)
-trap 'rm -rf "$folder"' EXIT
+. "$(dirname "$0")/setup.sh"
 cc -O2 -o "$folder/plain" bench/plain.c
 python3 - "$program" "$folder" "${1:-3}" <<'PYTHON'
 import os

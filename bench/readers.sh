@@ -17,12 +17,7 @@
 # starting, reading the file, making the tables, reading the formula, clearing the tables). The limits below are held
 # against the second time; the status is 1 where one is broken. A time is the processor time of the process, user and
 # system, which other work on the machine disturbs least.
-set -eu
-cd "$(dirname "$0")/.."
-program=$PWD/crates/jumpweft/out/jumpweft
-[ -x "$program" ] || { echo "bench: no $program: run rt ci first" >&2; exit 2; }
-folder=$(mktemp -d)
-trap 'rm -rf "$folder"' EXIT
+. "$(dirname "$0")/setup.sh"
 python3 - "$program" "$folder" "${1:-5}" <<'PYTHON'
 import os
 import random
