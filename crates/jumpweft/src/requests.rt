@@ -3,6 +3,7 @@ use super::number::{hex, plain};
 use base::values::ValueWord;
 use records::step::{Premise, Step};
 use std::alloc::{AllocError, Global};
+use std::array;
 
 // What a line asks for; a record's bytes are still hexadecimal digits.
 #[derive(Clone, Copy, Drop)]
@@ -15,13 +16,32 @@ pub(crate) enum Request<'a> {
     Shelf,
 }
 
-// Reads a line; none where it is no call.
-pub(crate) fn read_request(heap: Global, line: &[u8]) -> Result<Option<Request<'_>>, AllocError> {
-    let words: Vec<&[u8]> = line
-        .split(|byte| matches!(*byte, b' ' | b'\t' | b'\r'))
-        .filter(|word| !word.is_empty())
-        .collect(heap)?;
-    Ok(request_of(words.as_slice()))
+// The most words that a call has.
+const MOST_WORDS: usize = 5;
+
+// Reads a line; none where it is no call. Of a line with more words than any call has, one too many is read. A line is read
+// without memory, so that none is too long for it.
+pub(crate) fn read_request(line: &[u8]) -> Option<Request<'_>> {
+    let mut rest = line;
+    let words: [&[u8]; MOST_WORDS + 1] = array::from_fn(|_| {
+        let (word, behind) = next_word(rest);
+        rest = behind;
+        word
+    });
+    let count = words.iter().filter(|word| !word.is_empty()).count();
+    request_of(words.get(..count)?)
+}
+
+// The next word of a line and what is behind it; an empty word where only blanks are left.
+fn next_word(line: &[u8]) -> (&[u8], &[u8]) {
+    let start = line.iter().position(|byte| !is_blank(*byte));
+    let line = start.and_then(|start| line.get(start..)).unwrap_or(&[]);
+    let end = line.iter().position(|byte| is_blank(*byte));
+    line.split_at(end.unwrap_or(line.len()))
+}
+
+fn is_blank(byte: u8) -> bool {
+    matches!(byte, b' ' | b'\t' | b'\r')
 }
 
 fn request_of<'a>(words: &[&'a [u8]]) -> Option<Request<'a>> {

@@ -114,7 +114,7 @@ fn answer_line<S: Side, F: Shelf>(
     examiner: &mut Examiner<S, F>,
     line: &[u8],
 ) -> Result<(), io::Error> {
-    match read_request(rt.alloc(), line)? {
+    match read_request(line) {
         Some(Request::Open(number)) => open(rt, examiner, number),
         Some(Request::Step(step)) => print_answer(rt, make_call(examiner, Call::Step(step))),
         Some(Request::Take(digits)) => take(rt, examiner, digits),
