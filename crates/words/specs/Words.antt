@@ -1,5 +1,5 @@
 -- The words of a text from a place on.
-use Rattle.std.specs.Prelude.{◌≡◌, ℕ, zero, suc, ◌+◌, ◌<◌, ◌≤◌, cond, not, List, [], ◌∷◌, length, take, drop, Some, None, Option}
+use Rattle.std.specs.Prelude.{◌≡◌, ℕ, zero, suc, ◌+◌, ◌<◌, ◌≤◌, max, cond, not, List, [], ◌∷◌, length, take, drop, Some, None, Option}
 use Rattle.std.specs.List.{prefix_len}
 use Rattle.words.specs.declared.forms.Numeral.{Numeral}
 use Rattle.words.specs.Forms.{blank, letters, numeral_value}
@@ -49,7 +49,7 @@ bytes_of (other bs p) = bs
 abbrev pub end_of : Spelt → ℕ
 end_of w = start_of w + length (bytes_of w)
 
--- a word that is taken moves the place on, to the word's end
+-- a word that is taken moves the place on, to the word's end; where there is none, to the text's end, unless it is there or beyond
 abbrev pub Onward : Option Spelt → ℕ → ℕ → ℕ → Type 0
-Onward None p q size = Unit {0}
+Onward None p q size = q ≡ max p size
 Onward (Some w) p q size = (p < q) × (q ≤ size) × (q ≡ end_of w)

@@ -56,13 +56,16 @@ fn classify(word: &[u8], place: usize) -> Word
     }
 }
 
-// The next word, with the place moved to its end; none where only blanks are left.
+// The next word, with the place moved to its end; none where only blanks are left, and the place is then the text's end.
 pub fn take_word<'a>(text: &'a [u8], place: &mut Place) -> Option<Word<'a>>
     ensures is { words_from text.now place.old.at ≡ listed (option_map seen result) (words_from text.now place.new.at) }
     ensures onward { Onward (option_map seen result) place.old.at place.new.at (length text.now) }
 {
     let left = text.get(place.at..)?;
-    let blanks = first_ink(left)?;
+    let Some(blanks) = first_ink(left) else {
+        place.at = text.len();
+        return None;
+    };
     let word = &left[blanks..];
     let len = first_blank(word).unwrap_or(word.len());
     let start = place.at + blanks;
