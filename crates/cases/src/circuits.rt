@@ -207,6 +207,9 @@ static LONG: [(&[Piece], Rooms, Outcome); 10] = [
     ),
 ];
 
+// The zeros of a free entry, written out: the reader takes its own from `Default`.
+const NO_GATE: Gate = Gate { left: 0, right: 0 };
+
 // The reader of circuit texts, with the reaches.
 struct CircuitReader;
 
@@ -231,8 +234,8 @@ impl Reader for CircuitReader {
             Ok(head) => accepted(heap, place, head, outputs.as_slice(), gates.as_slice()),
             Err(fault) => {
                 let lawful = place.at == at
-                    && all_default(outputs.as_slice())
-                    && all_default(gates.as_slice());
+                    && all_are(outputs.as_slice(), &0)
+                    && all_are(gates.as_slice(), &NO_GATE);
                 Ok(if lawful {
                     refusal(fault)
                 } else {
@@ -259,7 +262,7 @@ fn accepted(
     ) else {
         return Ok(Outcome::Unlawful);
     };
-    if !filled || !all_default(no_outputs) || !all_default(no_gates) {
+    if !filled || !all_are(no_outputs, &0) || !all_are(no_gates, &NO_GATE) {
         return Ok(Outcome::Unlawful);
     }
     let word = match outputs.last() {
@@ -287,9 +290,9 @@ fn long_circuits(rt: HostRuntime) -> Result<(), Fail> {
 // The tables of two gates, the second of which reads the first.
 #[test]
 fn tables_of_a_circuit(rt: HostRuntime) {
-    let mut place = Place::default();
+    let mut place = Place { at: 0 };
     let mut outputs = [0; 2];
-    let mut gates = [Gate::default(); 2];
+    let mut gates = [NO_GATE; 2];
     assert!(rt;
         read_circuit(
             b"aag 4 2 0 2 2 2 4 9 6 6 5 2 8 7 4",

@@ -444,6 +444,20 @@ static LONG: [(&[Piece], Rooms, Outcome); 26] = [
     ),
 ];
 
+// The zeros of free entries, written out: the readers take theirs from `Default`.
+const NO_VARIABLE: Variable = Variable {
+    kind: Kind::Undeclared,
+    position: 0,
+    dependencies: ValueWord { bits: 0 },
+};
+
+const NO_CLAUSE: Clause = Clause { first: 0, len: 0 };
+
+const NO_LITERAL: Literal = Literal {
+    variable: 0,
+    negative: false,
+};
+
 // The reader of formula texts.
 struct FormulaReader;
 
@@ -483,9 +497,9 @@ impl Reader for FormulaReader {
             )),
             Err(fault) => {
                 let lawful = place.at == at
-                    && all_default(variables.as_slice())
-                    && all_default(clauses.as_slice())
-                    && all_default(literals.as_slice());
+                    && all_are(variables.as_slice(), &NO_VARIABLE)
+                    && all_are(clauses.as_slice(), &NO_CLAUSE)
+                    && all_are(literals.as_slice(), &NO_LITERAL);
                 Ok(if lawful {
                     refusal(fault)
                 } else {
@@ -516,7 +530,10 @@ fn accepted(
     let (Some(last), Some(no_literals)) = (variables.last(), literals.get(used..)) else {
         return Outcome::Unlawful;
     };
-    if !all_default(no_variables) || !all_default(no_clauses) || !all_default(no_literals) {
+    if !all_are(no_variables, &NO_VARIABLE)
+        || !all_are(no_clauses, &NO_CLAUSE)
+        || !all_are(no_literals, &NO_LITERAL)
+    {
         return Outcome::Unlawful;
     }
     Accepted(
@@ -545,10 +562,10 @@ fn long_formulas(rt: HostRuntime) -> Result<(), Fail> {
 // The tables of a formula whose existential, variable 2, has to equal its universal, variable 1.
 #[test]
 fn tables_of_a_formula(rt: HostRuntime) {
-    let mut place = Place::default();
-    let mut variables = [Variable::default(); 2];
-    let mut clauses = [Clause::default(); 2];
-    let mut literals = [Literal::default(); 4];
+    let mut place = Place { at: 0 };
+    let mut variables = [NO_VARIABLE; 2];
+    let mut clauses = [NO_CLAUSE; 2];
+    let mut literals = [NO_LITERAL; 4];
     assert!(rt;
         read_formula(
             b"p cnf 2 2 a 1 0 e 2 0 1 -2 0 -1 2 0",
