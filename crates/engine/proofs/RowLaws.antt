@@ -1,12 +1,12 @@
 -- Rows with a clause at their front, and how long a clause is that was told.
-use Rattle.std.proofs.Common.{◌≡◌, ℕ, ◌+◌, ◌-◌, [], subst, ◌≤◌, min, true, ◌&&◌, leb, List, length, take, Ok, Err, Result, Vec, sym, refl, ap, ◌∙◌, arith}
+use Rattle.std.proofs.Common.{◌≡◌, ℕ, ◌+◌, ◌-◌, [], subst, ◌≤◌, min, Bool, true, false, cond, ◌&&◌, ltb, leb, List, length, take, Some, None, Ok, Err, Option, Result, Vec, sym, refl, ap, ◌∙◌, arith}
 use Rattle.std.proofs.lemmas.List.{take_all, with_items_is}
-use Rattle.std.proofs.lemmas.Bool.{cond-true, cond-false, le-leb, leb-true, ne_eqb, and_parts}
+use Rattle.std.proofs.lemmas.Bool.{cond-true, cond-false, le-leb, ltb-false, leb-true, ne_eqb, and_parts}
 use Rattle.base.specs.declared.faults.Cause.{Cause}
 use Rattle.base.specs.declared.faults.Fault.{Fault}
 use Rattle.base.specs.Causes.{told, cause_number}
 use Rattle.clauses.specs.declared.entry.Entry.{Entry}
-use Rattle.clauses.specs.Clauses.{filed, over, told_clause, once, pivot_at, resolved_by, PremiseKept, Resolved}
+use Rattle.clauses.specs.Clauses.{Joined, filed, over, told_clause, once, member, resolvent, pivot_at, resolved_by, PremiseKept, Resolved}
 use Rattle.clauses.specs.Laid.{told_count}
 use Rattle.clauses.proofs.RowLaws.{take_over}
 use Rattle.clauses.specs.Worlds.{same_entry, complement_entry}
@@ -54,6 +54,24 @@ laid_by (Err k) r was is l short = l.answer
 -- what is told of a premise in a row that has room for each
 pub laid_is : (claim : Result (List Entry) ℕ) (r : Result ℕ Cause) (was is : List Entry) → Laid claim r was is → ((c : List Entry) → claim ≡ Ok c → length c ≤ 1024) → 1024 ≤ length was → told_clause r is ≡ claim
 laid_is claim r was is l short room = laid_by claim r was is l (λ c e. let h = short c e in omega arith)
+
+short_by : (b t : Bool) (c d : List Entry) → (t ≡ false → length c ≤ 1024) → ◌≡◌ {A = Result (List Entry) ℕ} (cond b (Err 19) (cond t (Err 20) (Ok c))) (Ok d) → length d ≤ 1024
+short_by true t c d h e = absurd (err_ok d 19 e)
+short_by false true c d h e = absurd (err_ok d 20 e)
+short_by false false c d h e = subst (λ (l : List Entry). length l ≤ 1024) (same_ok c d e) (h refl)
+
+-- a clause that is filed has at most 1,024 literals
+pub filed_short : (j : Joined Entry) (d : List Entry) → filed j ≡ Ok d → length d ≤ 1024
+filed_short j d e = short_by j.clash (ltb 1024 (length j.clause)) j.clause d (ltb-false 1024 (length j.clause)) e
+
+resolved_by_short : (b : Bool) (j : Joined Entry) (d : List Entry) → cond b (filed j) (Err 18) ≡ Ok d → length d ≤ 1024
+resolved_by_short true j d e = filed_short j d e
+resolved_by_short false j d e = absurd (err_ok d 18 e)
+
+pub resolved_short : (o : Option Entry) (first second : List Entry) (position : ℕ) (d : List Entry) → resolved_by same_entry complement_entry o first second position ≡ Ok d → length d ≤ 1024
+resolved_short None first second position d e = absurd (err_ok d 16 e)
+resolved_short (Some x) first second position d e =
+    resolved_by_short (member same_entry x second) (resolvent same_entry complement_entry first second x position) d e
 
 -- what is told of a premise with each literal kept once, in a row that has room
 pub kept_is : (p c : List Entry) (r : Result ℕ Cause) (was is : List Entry) → PremiseKept same_entry complement_entry p r was is → p ≡ c → length c ≤ length was → told_clause r is ≡ filed (once same_entry complement_entry c)

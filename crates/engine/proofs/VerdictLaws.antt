@@ -4,18 +4,20 @@ use Rattle.std.specs.List.{AllByRecursion}
 use Rattle.base.specs.declared.faults.Fault.{Fault}
 use Rattle.clauses.specs.declared.entry.Entry.{Entry}
 use Rattle.records.specs.declared.slip.Slip.{Slip}
+use Rattle.records.specs.declared.step.Step.{Step}
 use Rattle.engine.specs.declared.examiner.Examiner.{Examiner}
 use Rattle.engine.specs.declared.run.Answer.{Answer}
 use Rattle.engine.specs.declared.run.Call.{Call}
 use Rattle.engine.specs.declared.shelf.Shelf.{Ghosts as ShelfGhosts}
 use Rattle.engine.specs.declared.side.Side.{Ghosts as SideGhosts}
 use Rattle.engine.specs.declared.ticket.Ticket.{Ticket}
-use Rattle.engine.specs.Plain.{Rules, State, start, close_slip}
-use Rattle.engine.specs.Means.{rules, rules_of, state_of, Opens}
+use Rattle.engine.specs.Plain.{Rules, State, start, step_result, close_slip}
+use Rattle.engine.specs.Means.{rules, rules_of, state_of, Kept, Steps, Opens, Closes, Takes}
 use Rattle.engine.specs.Runs as runs
 use Rattle.engine.specs.Called.{called, told_answer, RunsTo}
 use Rattle.engine.specs.Verdicts.{SlipHolds, AnswerHolds, Reached, SoundSlip, SoundRun, Examined}
 use Rattle.engine.proofs.HistoryLaws.{all_runs_lawful}
+use Rattle.engine.proofs.RunLaws.{run_more}
 use Rattle.engine.proofs.Soundness.{sound_closing, sound_answers}
 
 pub run_append : (r : Rules) (s : State) (cs ds : List runs.Call) → runs.run r s (cs ++ ds) ≡ runs.run r (runs.run r s cs) ds
@@ -43,6 +45,23 @@ module _ {S F : Type 0} (side : SideGhosts S) (shelf : ShelfGhosts F) where
       let r : Rules = rules_of side shelf was in
       o.state ∙ ap (λ (t : State). runs.next r t (runs.opens n)) at ∙ sym (run_append r (start list) calls (runs.opens n ∷ []))
       ∙ ap (λ (q : Rules). runs.run q (start list) (calls ++ runs.opens n ∷ [])) (sym o.kept.rules_same)
+
+  -- and so do the other calls
+  module _ (list : List (List Entry)) (calls : List runs.Call) (was is : Examiner S F side shelf) (at : Reached side shelf list calls was) where
+    reached_by : (c : runs.Call) → state_of side shelf is ≡ runs.next (rules_of side shelf was) (state_of side shelf was) c → Kept side shelf was is → Reached side shelf list (calls ++ c ∷ []) is
+    reached_by c e kept =
+        let r : Rules = rules_of side shelf was in
+        e ∙ ap (λ (t : State). runs.next r t c) at ∙ sym (run_more r (start list) calls c)
+        ∙ ap (λ (q : Rules). runs.run q (start list) (calls ++ c ∷ [])) (sym kept.rules_same)
+
+    pub reached_step : (p : Step) (x : Result ℕ Fault) → Steps side shelf (λ r s. step_result r s p) x was is → Reached side shelf list (calls ++ runs.steps p ∷ []) is
+    reached_step p x o = reached_by (runs.steps p) o.state o.kept
+
+    pub reached_take : (bytes : List ℕ) (x : Result ℕ Fault) (used : ℕ) → Takes side shelf bytes x used was is → Reached side shelf list (calls ++ runs.takes bytes ∷ []) is
+    reached_take bytes x used o = reached_by (runs.takes bytes) o.steps.state o.steps.kept
+
+    pub reached_close : (n : ℕ) (x : Slip) → Closes side shelf n x was is → Reached side shelf list (calls ++ runs.closes n ∷ []) is
+    reached_close n x o = reached_by (runs.closes n) o.state o.kept
 
   module _ (n : ℕ) (calls : List Call) (row row_then : List Answer) (was is : Examiner S F side shelf) (h : RunsTo side shelf n calls row row_then was is) where
     -- the calls that were made, behind those before

@@ -14,7 +14,7 @@ use Rattle.records.specs.Slips.{LawfulSlip, MadeBy, ReadsSlip, begins_slip, verd
 use Rattle.records.proofs.ByteLaws.{elements, split_at}
 
 -- sixteen bytes read as their verdict's number and three fields
-fields_read : (verdict case clauses goal : ℕ) (behind : List ℕ) → case < 2 ^ 32 → clauses < 2 ^ 32 → goal < 2 ^ 32 →
+pub fields_read : (verdict case clauses goal : ℕ) (behind : List ℕ) → case < 2 ^ 32 → clauses < 2 ^ 32 → goal < 2 ^ 32 →
     slip_from (fields_bytes verdict case clauses goal ++ behind) ≡ ok_or (slip_by verdict case clauses goal) malformed
 fields_read verdict case clauses goal behind c s g =
     let front = fields_bytes verdict case clauses goal in
@@ -34,13 +34,13 @@ goal_bound (slip.Unproved case clauses goal) h = omega arith
 goal_bound (slip.Stray case) h = omega arith
 
 -- the bytes of a lawful slip, with any behind them, read as the slip
-slip_reads : (s : Slip) (behind : List ℕ) → LawfulSlip s → slip_from (slip_bytes s ++ behind) ≡ Ok s
+pub slip_reads : (s : Slip) (behind : List ℕ) → LawfulSlip s → slip_from (slip_bytes s ++ behind) ≡ Ok s
 slip_reads s behind h =
     fields_read (verdict_number s) (case_of s) (clauses_of s) (goal_of s) behind h.0 (omega (arith, h.1)) (goal_bound s h)
     ∙ ap (λ o. ok_or o malformed) (lawful_by s h)
 
 -- Bytes that read as no slip begin with no lawful slip's bytes.
-refuses_slip : (bs : List ℕ) (e : Refusal) → Err e ≡ slip_from bs → (s : Slip) → LawfulSlip s → take 16 bs ≡ slip_bytes s → ⊥
+pub refuses_slip : (bs : List ℕ) (e : Refusal) → Err e ≡ slip_from bs → (s : Slip) → LawfulSlip s → take 16 bs ≡ slip_bytes s → ⊥
 refuses_slip bs e r s h front =
     let whole : bs ≡ slip_bytes s ++ drop 16 bs = sym (take-append-drop 16 bs) ∙ ap (λ (l : List ℕ). l ++ drop 16 bs) front in
     let reads : slip_from bs ≡ Ok s = ap slip_from whole ∙ slip_reads s (drop 16 bs) h in

@@ -56,6 +56,11 @@ cut_word (b ∷ bs) p h =
     ∙ ap (λ ws. classed (take (inked (b ∷ bs)) (b ∷ bs)) p ∷ ws) (cut_skip (inked bs) bs (p + 1) ∙ ap (cut 0 (drop (inked bs) bs)) (omega arith) ∙ ap (λ n. cut 0 (drop n (b ∷ bs)) (p + n)) (sym (inked_no b bs e))))
     (cases_Bool (blank b))
 
+pub cut_none : (bs : List ℕ) (p : ℕ) → blanks bs ≡ 0 → inked bs ≡ 0 → cut 0 bs p ≡ []
+cut_none [] p e h = refl
+cut_none (b ∷ bs) p e h =
+    ⊎_elim (λ x. absurd (omega (arith, blanks_yes b bs x))) (λ x. absurd (omega (arith, inked_no b bs x))) (cases_Bool (blank b))
+
 ink_after : (bs : List ℕ) → blanks bs < length bs → 0 < inked (drop (blanks bs) bs)
 ink_after [] h = absurd (omega arith)
 ink_after (b ∷ bs) h =
