@@ -3,7 +3,6 @@ use super::number::{hex, plain};
 use base::values::ValueWord;
 use records::step::{Premise, Step};
 use std::alloc::{AllocError, Global};
-use std::array;
 
 // What a line asks for; a record's bytes are still hexadecimal digits.
 #[derive(Clone, Copy, Drop)]
@@ -16,68 +15,89 @@ pub(crate) enum Request<'a> {
     Shelf,
 }
 
-// The most words that a call has.
-const MOST_WORDS: usize = 5;
-
-// Reads a line; none where it is no call. Of a line with more words than any call has, one too many is read. A line is read
-// without memory, so that none is too long for it.
-pub(crate) fn read_request(line: &[u8]) -> Option<Request<'_>> {
-    let mut rest = line;
-    let words: [&[u8]; MOST_WORDS + 1] = array::from_fn(|_| {
-        let (word, behind) = next_word(rest);
-        rest = behind;
-        word
-    });
-    let count = words.iter().filter(|word| !word.is_empty()).count();
-    request_of(words.get(..count)?)
+// The words of a line that are left. A line is read word by word and without memory, so that none is too long for it, and one that is no
+// call is read no further than to the word that says so.
+#[derive(Drop)]
+struct Words<'a> {
+    rest: &'a [u8],
 }
 
-// The next word of a line and what is behind it; an empty word where only blanks are left.
-fn next_word(line: &[u8]) -> (&[u8], &[u8]) {
-    let start = line.iter().position(|byte| !is_blank(*byte));
-    let line = start.and_then(|start| line.get(start..)).unwrap_or(&[]);
-    let end = line.iter().position(|byte| is_blank(*byte));
-    line.split_at(end.unwrap_or(line.len()))
+impl<'a> Words<'a> {
+    // Takes the next word; an empty one where only blanks are left.
+    fn next(&mut self) -> &'a [u8] {
+        let start = self.rest.iter().position(|byte| !is_blank(*byte));
+        let line = start
+            .and_then(|start| self.rest.get(start..))
+            .unwrap_or(&[]);
+        let end = line.iter().position(|byte| is_blank(*byte));
+        let (word, rest) = line.split_at(end.unwrap_or(line.len()));
+        self.rest = rest;
+        word
+    }
+
+    // Takes the next word as a number.
+    fn number<T: TryFrom<u64>>(&mut self) -> Option<T>
+    where
+        T::Error: Drop,
+    {
+        plain(self.next())
+    }
+
+    // Whether only blanks are left.
+    fn is_empty(&self) -> bool {
+        self.rest.iter().all(|byte| is_blank(*byte))
+    }
 }
 
 fn is_blank(byte: u8) -> bool {
     matches!(byte, b' ' | b'\t' | b'\r')
 }
 
-fn request_of<'a>(words: &[&'a [u8]]) -> Option<Request<'a>> {
-    match words {
-        [b"open", number] => Some(Request::Open(plain(number)?)),
-        [b"premise", premise @ ..] => Some(Request::Step(Step::Premise(premise_of(premise)?))),
-        [b"resolve", first, second, position] => Some(Request::Step(Step::Resolve {
-            first: plain(first)?,
-            second: plain(second)?,
-            position: plain(position)?,
-        })),
-        [b"settle", goal, clause] => Some(Request::Step(Step::Settle {
-            goal: plain(goal)?,
-            clause: plain(clause)?,
-        })),
-        [b"take", digits] => Some(Request::Take(*digits)),
-        [b"close", number] => Some(Request::Close(plain(number)?)),
-        [b"show", number] => Some(Request::Show(plain(number)?)),
-        [b"shelf"] => Some(Request::Shelf),
+// Reads a line; none where it is no call.
+pub(crate) fn read_request(line: &[u8]) -> Option<Request<'_>> {
+    let mut words = Words { rest: line };
+    let request = match words.next() {
+        b"open" => Request::Open(words.number()?),
+        b"premise" => Request::Step(Step::Premise(premise_of(&mut words)?)),
+        b"resolve" => Request::Step(Step::Resolve {
+            first: words.number()?,
+            second: words.number()?,
+            position: words.number()?,
+        }),
+        b"settle" => Request::Step(Step::Settle {
+            goal: words.number()?,
+            clause: words.number()?,
+        }),
+        b"take" => Request::Take(words.next()),
+        b"close" => Request::Close(words.number()?),
+        b"show" => Request::Show(words.number()?),
+        b"shelf" => Request::Shelf,
+        _ => return None,
+    };
+    words.is_empty().then_some(request)
+}
+
+fn premise_of(words: &mut Words<'_>) -> Option<Premise> {
+    match words.next() {
+        b"truth" => Some(Premise::Truth {
+            class: words.number()?,
+            number: words.number()?,
+            part: words.number()?,
+        }),
+        b"falsity" => Some(Premise::Falsity {
+            clause: words.number()?,
+            values: values_of(words.next())?,
+        }),
         _ => None,
     }
 }
 
-fn premise_of(words: &[&[u8]]) -> Option<Premise> {
-    match words {
-        [b"truth", class, number, part] => Some(Premise::Truth {
-            class: plain(class)?,
-            number: plain(number)?,
-            part: plain(part)?,
-        }),
-        [b"falsity", clause, values] if values.len() == 16 => Some(Premise::Falsity {
-            clause: plain(clause)?,
-            values: ValueWord { bits: hex(values)? },
-        }),
-        _ => None,
+// The word of values that 16 hexadecimal digits say.
+fn values_of(digits: &[u8]) -> Option<ValueWord> {
+    if digits.len() != 16 {
+        return None;
     }
+    Some(ValueWord { bits: hex(digits)? })
 }
 
 // The bytes that pairs of hexadecimal digits say; none where they are no pairs, or there are none.
