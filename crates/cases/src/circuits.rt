@@ -234,8 +234,8 @@ impl Reader for CircuitReader {
             Ok(head) => accepted(heap, place, head, outputs.as_slice(), gates.as_slice()),
             Err(fault) => {
                 let lawful = place.at == at
-                    && all_are(outputs.as_slice(), &0)
-                    && all_are(gates.as_slice(), &NO_GATE);
+                    && all_are(outputs.as_slice(), 0)
+                    && all_are(gates.as_slice(), NO_GATE);
                 Ok(if lawful {
                     refusal(fault)
                 } else {
@@ -262,7 +262,7 @@ fn accepted(
     ) else {
         return Ok(Outcome::Unlawful);
     };
-    if !filled || !all_are(no_outputs, &0) || !all_are(no_gates, &NO_GATE) {
+    if !filled || !all_are(no_outputs, 0) || !all_are(no_gates, NO_GATE) {
         return Ok(Outcome::Unlawful);
     }
     let word = match outputs.last() {

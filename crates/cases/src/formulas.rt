@@ -497,9 +497,9 @@ impl Reader for FormulaReader {
             )),
             Err(fault) => {
                 let lawful = place.at == at
-                    && all_are(variables.as_slice(), &NO_VARIABLE)
-                    && all_are(clauses.as_slice(), &NO_CLAUSE)
-                    && all_are(literals.as_slice(), &NO_LITERAL);
+                    && all_are(variables.as_slice(), NO_VARIABLE)
+                    && all_are(clauses.as_slice(), NO_CLAUSE)
+                    && all_are(literals.as_slice(), NO_LITERAL);
                 Ok(if lawful {
                     refusal(fault)
                 } else {
@@ -530,9 +530,9 @@ fn accepted(
     let (Some(last), Some(no_literals)) = (variables.last(), literals.get(used..)) else {
         return Outcome::Unlawful;
     };
-    if !all_are(no_variables, &NO_VARIABLE)
-        || !all_are(no_clauses, &NO_CLAUSE)
-        || !all_are(no_literals, &NO_LITERAL)
+    if !all_are(no_variables, NO_VARIABLE)
+        || !all_are(no_clauses, NO_CLAUSE)
+        || !all_are(no_literals, NO_LITERAL)
     {
         return Outcome::Unlawful;
     }

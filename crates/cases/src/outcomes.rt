@@ -87,8 +87,8 @@ pub fn refusal(fault: Fault) -> Outcome {
     Outcome::Refused(fault.cause.number(), fault.place, fault.layer.number())
 }
 
-pub fn all_are<T: PartialEq>(entries: &[T], this: &T) -> bool {
-    entries.iter().all(|entry| *entry == *this)
+pub fn all_are<T: PartialEq + Copy>(entries: &[T], zero: T) -> bool {
+    entries.iter().all(|entry| *entry == zero)
 }
 
 pub fn build(heap: Global, pieces: &[Piece]) -> Result<String, AllocError> {
