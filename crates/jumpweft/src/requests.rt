@@ -35,12 +35,26 @@ impl<'a> Words<'a> {
         word
     }
 
+    // Takes the next word, which is the last; none where another follows.
+    fn last(&mut self) -> Option<&'a [u8]> {
+        let word = self.next();
+        self.is_empty().then_some(word)
+    }
+
     // Takes the next word as a number.
     fn number<T: TryFrom<u64>>(&mut self) -> Option<T>
     where
         T::Error: Drop,
     {
         plain(self.next())
+    }
+
+    // Takes the last word as a number.
+    fn last_number<T: TryFrom<u64>>(&mut self) -> Option<T>
+    where
+        T::Error: Drop,
+    {
+        plain(self.last()?)
     }
 
     // Whether only blanks are left.
@@ -56,25 +70,24 @@ fn is_blank(byte: u8) -> bool {
 // Reads a line; none where it is no call.
 pub(crate) fn read_request(line: &[u8]) -> Option<Request<'_>> {
     let mut words = Words { rest: line };
-    let request = match words.next() {
-        b"open" => Request::Open(words.number()?),
-        b"premise" => Request::Step(Step::Premise(premise_of(&mut words)?)),
-        b"resolve" => Request::Step(Step::Resolve {
+    match words.next() {
+        b"open" => Some(Request::Open(words.last_number()?)),
+        b"premise" => Some(Request::Step(Step::Premise(premise_of(&mut words)?))),
+        b"resolve" => Some(Request::Step(Step::Resolve {
             first: words.number()?,
             second: words.number()?,
-            position: words.number()?,
-        }),
-        b"settle" => Request::Step(Step::Settle {
+            position: words.last_number()?,
+        })),
+        b"settle" => Some(Request::Step(Step::Settle {
             goal: words.number()?,
-            clause: words.number()?,
-        }),
-        b"take" => Request::Take(words.next()),
-        b"close" => Request::Close(words.number()?),
-        b"show" => Request::Show(words.number()?),
-        b"shelf" => Request::Shelf,
-        _ => return None,
-    };
-    words.is_empty().then_some(request)
+            clause: words.last_number()?,
+        })),
+        b"take" => Some(Request::Take(words.last()?)),
+        b"close" => Some(Request::Close(words.last_number()?)),
+        b"show" => Some(Request::Show(words.last_number()?)),
+        b"shelf" if words.is_empty() => Some(Request::Shelf),
+        _ => None,
+    }
 }
 
 fn premise_of(words: &mut Words<'_>) -> Option<Premise> {
@@ -82,11 +95,11 @@ fn premise_of(words: &mut Words<'_>) -> Option<Premise> {
         b"truth" => Some(Premise::Truth {
             class: words.number()?,
             number: words.number()?,
-            part: words.number()?,
+            part: words.last_number()?,
         }),
         b"falsity" => Some(Premise::Falsity {
             clause: words.number()?,
-            values: values_of(words.next())?,
+            values: values_of(words.last()?)?,
         }),
         _ => None,
     }
