@@ -320,6 +320,8 @@ def whole_case(dice):
 
 NO_CALLS = ["", "what", "open", "open x", "open -1", "open 4294967296", "premise", "premise truth 1 1", "premise falsity 1 0"]
 NO_CALLS += ["premise truth 256 1 1", "resolve 1 1 65536", "settle 1", "settle 65536 1", "take", "take 0", "take xx", "close", "show", "shelf 1"]
+NO_CALLS += ["open 7 7", "premise truth 1 1 1 1", "premise falsity 1 0000000000000000 1", "resolve 1 1 1 1", "settle 1 1 1", "take 00 00"]
+NO_CALLS += ["close 7 7", "show 1 1", "premise other 1 1 1", "a b c d e f g h"]
 
 
 def random_call(dice, examiner):
